@@ -1,0 +1,32 @@
+-- The statuses of `replay` are exact: laws over the table.
+use Rattle.std.specs.Prelude.{◌≡◌, ◌≢◌, ℕ, ◌<◌, List, ◌++◌, length, Some, ◌↔◌}
+use Rattle.troop_main.specs.declared.outcome.Outcome.TheVariants as outcome
+use Rattle.troop_main.specs.Lines.{lines}
+use Rattle.troop_main.specs.Script.{output}
+use Rattle.troop_main.specs.Input.{most_input}
+use Rattle.troop_main.specs.Ports.{Port, IsCalm, IsFaulted, Took, Reported}
+use Rattle.troop_main.specs.Statuses.{IsBuilt, IsUnbuiltAt, Replays, error_line}
+
+-- But for want of memory, 10 is answered exactly where more bytes were taken than an input may have.
+abbrev pub TooMuchExactly : Type 0
+TooMuchExactly = (code : ℕ) (input out err : Port) (taken left : List ℕ) → Replays code input out err
+    → input.before ≡ Some (taken ++ left) → input.after ≡ Some left → code ≢ 3
+    → (code ≡ 10) ↔ (most_input < length taken)
+
+-- But for want of memory and for a fault of the input, 12 is answered exactly where a line isn't built, and its number is that of the first one.
+abbrev pub UnbuiltExactly : Type 0
+UnbuiltExactly = (code : ℕ) (input out err : Port) (bytes : List ℕ) → Replays code input out err
+    → input.before ≡ Some bytes → (IsFaulted input → ⊥) → code ≢ 3
+    → (code ≡ 12 → (n : ℕ) × IsUnbuiltAt bytes n) × ((n : ℕ) → IsUnbuiltAt bytes n → (code ≡ 12) × Reported err (error_line (outcome.Unbuilt n)))
+
+-- But for want of memory and for faults, 0 is answered exactly where every line is built, and all that the lines print was written.
+abbrev pub DoneExactly : Type 0
+DoneExactly = (code : ℕ) (input out err : Port) (bytes : List ℕ) → Replays code input out err
+    → input.before ≡ Some bytes → (IsFaulted input → ⊥) → (IsFaulted out → ⊥) → code ≢ 3
+    → ((code ≡ 0) ↔ IsBuilt bytes) × (code ≡ 0 → Took out (output (lines bytes)))
+
+-- 4 comes only with a counted fault of the input, 5 only with one of the output, and with any other status no fault was counted of either.
+abbrev pub FaultsExactly : Type 0
+FaultsExactly = (code : ℕ) (input out err : Port) → Replays code input out err
+    → (code ≡ 4 → IsFaulted input × IsCalm out) × (code ≡ 5 → IsCalm input × IsFaulted out)
+    × (code ≢ 4 → code ≢ 5 → IsCalm input × IsCalm out)

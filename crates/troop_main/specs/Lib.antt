@@ -1,0 +1,10 @@
+pub mod Lines
+pub mod Grammar
+pub mod Printed
+pub mod Script
+pub mod Ports
+pub mod Input
+pub mod Statuses
+pub mod Runs
+pub mod Feeds
+pub mod Exactly

@@ -1,0 +1,148 @@
+//! The steps of a script, read from its lines.
+ghost use Rattle.std.specs.Prelude.{◌≡◌, IfOk, map, option_map};
+ghost use Rattle.serde_json.specs.View.{view};
+ghost use Rattle.troop_main.specs.Grammar.{is_blank, value_of, name_of, lang_of, guest_of, step_of_word, step_of_data, step_of, meaning_of};
+
+use ot_text::Text;
+use serde_json::Value;
+use std::alloc::{AllocError, Global};
+use troop_entry::Lang;
+
+/// How many characters a name may have.
+const LONGEST_NAME: u64 = 32;
+
+/// A step of a script.
+#[derive(Debug, Drop)]
+pub enum Step {
+    /// A performer of this name joins, and is played by the script's calls.
+    Guest { name: Text, lang: Lang },
+}
+
+/// What a line means.
+#[derive(Debug, Drop)]
+pub enum Meaning {
+    /// Nothing: it has white space alone.
+    Blank,
+    /// This step.
+    Step(Step),
+    /// It is no step that is built.
+    Unbuilt,
+}
+
+/// What a line means.
+pub fn read_line(alloc: Global, line: &[u8]) -> Result<Meaning, AllocError>
+    ensures { IfOk result (λ meaning. meaning ≡ meaning_of line.now) }
+{
+    if is_blank(line) {
+        return Ok(Meaning::Blank);
+    }
+    match read_step(alloc, line)? {
+        Some(step) => Ok(Meaning::Step(step)),
+        None => Ok(Meaning::Unbuilt),
+    }
+}
+
+fn is_blank(line: &[u8]) -> bool
+    ensures { result ≡ is_blank line.now }
+{
+    line.iter()
+        .all(|b| *b == b' ' || *b == b'\t' || *b == b'\n' || *b == b'\r')
+}
+
+fn read_step(alloc: Global, line: &[u8]) -> Result<Option<Step>, AllocError>
+    ensures { IfOk result (λ step. step ≡ step_of line.now) }
+{
+    match read_value(alloc, line)? {
+        Some(value) => read_array(alloc, &value),
+        None => Ok(None),
+    }
+}
+
+// The JSON value of a line, if it is one.
+fn read_value(alloc: Global, line: &[u8]) -> Result<Option<Value>, AllocError>
+    ensures { IfOk result (λ value. option_map view value ≡ value_of line.now) }
+{
+    let Ok(text) = str::from_utf8(line) else {
+        return Ok(None);
+    };
+    match Value::from_str(alloc, text) {
+        Ok(value) => Ok(Some(value)),
+        Err(error) => {
+            if error.is_memory() {
+                Err(AllocError)
+            } else {
+                Ok(None)
+            }
+        }
+    }
+}
+
+fn read_array(alloc: Global, value: &Value) -> Result<Option<Step>, AllocError>
+    ensures { IfOk result (λ step. step ≡ step_of_data (view value.now)) }
+{
+    let Some(items) = value.as_array() else {
+        return Ok(None);
+    };
+    let Some((first, others)) = items.split_first() else {
+        return Ok(None);
+    };
+    match first.as_str() {
+        Some(word) => read_others(alloc, word, others),
+        None => Ok(None),
+    }
+}
+
+// The step that a word and the elements behind it make.
+fn read_others(alloc: Global, word: &str, others: &[Value]) -> Result<Option<Step>, AllocError>
+    ensures { IfOk result (λ step. step ≡ step_of_word word.now (map view others.now)) }
+{
+    match others {
+        [name, lang] => {
+            if word == "guest" {
+                read_guest(alloc, name, lang)
+            } else {
+                Ok(None)
+            }
+        }
+        _ => Ok(None),
+    }
+}
+
+fn read_guest(alloc: Global, name: &Value, lang: &Value) -> Result<Option<Step>, AllocError>
+    ensures { IfOk result (λ step. step ≡ guest_of (view name.now) (view lang.now)) }
+{
+    let Some(name) = read_name(alloc, name)? else {
+        return Ok(None);
+    };
+    match read_lang(lang) {
+        Some(lang) => Ok(Some(Step::Guest { name, lang })),
+        None => Ok(None),
+    }
+}
+
+fn read_name(alloc: Global, value: &Value) -> Result<Option<Text>, AllocError>
+    ensures { IfOk result (λ name. name ≡ name_of (view value.now)) }
+{
+    let Some(text) = value.as_str() else {
+        return Ok(None);
+    };
+    let name = Text::of(alloc, text)?;
+    if 1 <= name.len() && name.len() <= LONGEST_NAME {
+        Ok(Some(name))
+    } else {
+        Ok(None)
+    }
+}
+
+fn read_lang(value: &Value) -> Option<Lang>
+    ensures { result ≡ lang_of (view value.now) }
+{
+    let text = value.as_str()?;
+    if text == "lines" {
+        Some(Lang::Lines)
+    } else if text == "ghci" {
+        Some(Lang::Ghci)
+    } else {
+        None
+    }
+}

@@ -1,0 +1,39 @@
+//! How a run ends.
+ghost use Rattle.std.specs.Prelude.{◌≡◌};
+ghost use Rattle.troop_main.specs.Statuses.{code_of};
+
+use troop_ports::Status;
+
+/// How a run of a script ends.
+#[derive(Clone, Copy, Debug, PartialEq, Eq)]
+pub enum Outcome {
+    /// The whole script was played, and all that it prints was written.
+    Done,
+    /// Memory was wanting.
+    Memory,
+    /// The input counted a fault.
+    ReadFault,
+    /// The output counted a fault.
+    WriteFault,
+    /// The input has too many bytes.
+    TooMuch,
+    /// The line of this number isn't built.
+    Unbuilt(u64),
+}
+
+impl Outcome {
+    /// The status that the outcome gives.
+    pub fn status(self) -> Status
+        ensures { result.code ≡ code_of self }
+    {
+        let code = match self {
+            Outcome::Done => 0,
+            Outcome::Memory => 3,
+            Outcome::ReadFault => 4,
+            Outcome::WriteFault => 5,
+            Outcome::TooMuch => 10,
+            Outcome::Unbuilt(_) => 12,
+        };
+        Status { code }
+    }
+}

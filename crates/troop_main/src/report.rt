@@ -1,0 +1,63 @@
+//! The line on standard error, which takes no memory.
+ghost use Rattle.std.specs.Prelude.{◌≡◌, ◌++◌, codes, decimal, false};
+ghost use Rattle.troop_main.specs.Ports.{Reported};
+ghost use Rattle.troop_main.specs.Statuses.{error_line};
+
+use crate::Outcome;
+use itoa::Buffer;
+use troop_ports::{Sink, Written, write_all};
+
+/// Writes the line of an outcome.
+pub fn report<E: Sink>(outcome: Outcome, err: &mut E)
+    requires { E.closed err.old ≡ false }
+    ensures { Reported (record { before = E.taken err.old; after = E.taken err.new; faults_before = E.faults err.old; faults_after = E.faults err.new }) (error_line outcome) }
+{
+    match outcome {
+        Outcome::Done => {}
+        Outcome::Memory => write_line(err, b"troop: out of memory\n"),
+        Outcome::ReadFault => write_line(err, b"troop: read fault\n"),
+        Outcome::WriteFault => write_line(err, b"troop: write fault\n"),
+        Outcome::TooMuch => write_line(err, b"troop: too much input\n"),
+        Outcome::Unbuilt(line) => report_unbuilt(line, err),
+    }
+}
+
+/// Writes a line, or as much of it as is taken before a fault.
+pub fn write_line<E: Sink>(err: &mut E, line: &[u8])
+    requires { E.closed err.old ≡ false }
+    ensures { Reported (record { before = E.taken err.old; after = E.taken err.new; faults_before = E.faults err.old; faults_after = E.faults err.new }) line.now }
+{
+    let _ = write_all(err, line);
+}
+
+fn report_unbuilt<E: Sink>(line: u64, err: &mut E)
+    requires { E.closed err.old ≡ false }
+    ensures { Reported (record { before = E.taken err.old; after = E.taken err.new; faults_before = E.faults err.old; faults_after = E.faults err.new })
+        (codes "troop: line " ++ (decimal line ++ codes " isn't built\n")) }
+{
+    match write_all(err, b"troop: line ") {
+        Written::All => report_number(line, err),
+        Written::Part(_) => {}
+    }
+}
+
+fn report_number<E: Sink>(line: u64, err: &mut E)
+    requires { E.closed err.old ≡ false }
+    ensures { Reported (record { before = E.taken err.old; after = E.taken err.new; faults_before = E.faults err.old; faults_after = E.faults err.new })
+        (decimal line ++ codes " isn't built\n") }
+{
+    let mut buffer = Buffer::new();
+    let digits = buffer.format(line);
+    report_digits(digits.as_bytes(), err);
+}
+
+fn report_digits<E: Sink>(digits: &[u8], err: &mut E)
+    requires { E.closed err.old ≡ false }
+    ensures { Reported (record { before = E.taken err.old; after = E.taken err.new; faults_before = E.faults err.old; faults_after = E.faults err.new })
+        (digits.now ++ codes " isn't built\n") }
+{
+    match write_all(err, digits) {
+        Written::All => write_line(err, b" isn't built\n"),
+        Written::Part(_) => {}
+    }
+}
