@@ -45,8 +45,7 @@ pub fn read_line(alloc: Global, line: &[u8]) -> Result<Meaning, AllocError>
 fn is_blank(line: &[u8]) -> bool
     ensures { result ≡ is_blank line.now }
 {
-    line.iter()
-        .all(|b| *b == b' ' || *b == b'\t' || *b == b'\n' || *b == b'\r')
+    line.iter().all(|b| *b == b' ' || *b == b'\t' || *b == b'\n' || *b == b'\r')
 }
 
 fn read_step(alloc: Global, line: &[u8]) -> Result<Option<Step>, AllocError>

@@ -13,6 +13,8 @@ mod play;
 mod print;
 mod report;
 mod runs;
+#[cfg(test)]
+mod tests;
 mod top;
 mod words;
 
