@@ -1,0 +1,15 @@
+pub mod Effects
+pub mod Applied
+pub mod Canonical
+pub mod Characters
+pub mod Ends
+pub mod Filled
+pub mod Gaps
+pub mod Identity
+pub mod Images
+pub mod Inserts
+pub mod Kept
+pub mod KeptPlaces
+pub mod Normal
+pub mod Sums
+pub mod Then

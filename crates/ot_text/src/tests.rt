@@ -1,0 +1,144 @@
+//! The worked examples.
+use crate::{ApplyError, MAX_LEN, Op, OpBuilder, Part, Text, apply, effect_law};
+use std::alloc::{AllocError, Global};
+use std::process::Abort;
+use std::test::Fail;
+
+// A part of an example.
+enum Spelled {
+    Keep(u64),
+    Put(&'static str),
+    Cut(u64),
+}
+
+use Spelled::{Cut, Keep, Put};
+
+// The operation of these parts; want of memory if they are too long.
+fn op(alloc: Global, parts: &[Spelled]) -> Result<Op, AllocError> {
+    let mut builder = OpBuilder::new(alloc);
+    for part in parts {
+        put(alloc, &mut builder, part)?;
+    }
+    Ok(builder.finish())
+}
+
+fn put(alloc: Global, builder: &mut OpBuilder, part: &Spelled) -> Result<(), AllocError> {
+    let base_left = MAX_LEN - builder.base();
+    let target_left = MAX_LEN - builder.target();
+    match part {
+        Keep(count) if *count <= base_left && *count <= target_left => builder.retain(*count),
+        Put(string) => {
+            let text = Text::of(alloc, string)?;
+            if text.len() > target_left {
+                return Err(AllocError);
+            }
+            builder.insert(&text)
+        }
+        Cut(count) if *count <= base_left => builder.delete(*count),
+        _ => Err(AllocError),
+    }
+}
+
+// The operation has the parts `["x", -2]`.
+fn assert_x_before_two_deleted(rt: &impl Abort, alloc: Global, op: &Op) -> Result<(), Fail> {
+    let x = Text::of(alloc, "x")?;
+    match op.parts() {
+        [Part::Insert(text), Part::Delete(count)] => {
+            assert!(rt; text.same(&x) && *count == 2);
+        }
+        _ => assert!(rt; false, "other parts"),
+    }
+    assert!(rt; op.base() == 2 && op.target() == 1 && op.inserted() == 1 && !op.is_identity());
+    Ok(())
+}
+
+// The operation makes this text of that one.
+fn assert_makes(
+    rt: &impl Abort,
+    alloc: Global,
+    op: &Op,
+    text: &Text,
+    made: &Text,
+) -> Result<(), Fail> {
+    match apply(alloc, op, text) {
+        Ok(result) => assert!(rt; result.same(made)),
+        Err(ApplyError::Memory) => return Err(AllocError.into()),
+        Err(_) => assert!(rt; false, "refused"),
+    }
+    Ok(())
+}
+
+#[test]
+fn applies_to_a_text_of_its_base(rt: HostRuntime) -> Result<(), Fail> {
+    effect_law::<char>();
+    let alloc = rt.alloc();
+    let big = op(alloc, &[Keep(5), Put(" big"), Keep(6)])?;
+    let hello = Text::of(alloc, "hello world")?;
+    assert_makes(
+        &rt,
+        alloc,
+        &big,
+        &hello,
+        &Text::of(alloc, "hello big world")?,
+    )?;
+    let nothing = op(alloc, &[])?;
+    assert_makes(&rt, alloc, &nothing, &Text::new(alloc), &Text::new(alloc))?;
+    Ok(())
+}
+
+#[test]
+fn refuses_a_text_of_another_length(rt: HostRuntime) -> Result<(), Fail> {
+    let alloc = rt.alloc();
+    let big = op(alloc, &[Keep(5), Put(" big"), Keep(6)])?;
+    match apply(alloc, &big, &Text::of(alloc, "hello worl")?) {
+        Ok(_) => assert!(rt; false, "applied"),
+        Err(error) => assert!(rt; error == ApplyError::BadBase { want: 11, got: 10 }),
+    }
+    Ok(())
+}
+
+#[test]
+fn spellings_are_one_operation(rt: HostRuntime) -> Result<(), Fail> {
+    let alloc = rt.alloc();
+    let short = op(alloc, &[Cut(2), Put("x")])?;
+    let long = op(alloc, &[Keep(0), Put(""), Cut(1), Cut(1), Put("x")])?;
+    assert_x_before_two_deleted(&rt, alloc, &short)?;
+    assert_x_before_two_deleted(&rt, alloc, &long)?;
+    assert!(rt; short.same(&long));
+    Ok(())
+}
+
+#[test]
+fn clones_are_equal(rt: HostRuntime) -> Result<(), Fail> {
+    let alloc = rt.alloc();
+    let op = op(alloc, &[Cut(2), Put("x")])?;
+    let copy = op.try_clone()?;
+    assert_x_before_two_deleted(&rt, alloc, &copy)?;
+    for part in op.parts() {
+        assert!(rt; part.same(&part.try_clone()?));
+    }
+    let x = Text::of(alloc, "x")?;
+    let other = x.try_clone()?;
+    assert!(rt; other.same(&x) && other.len() == 1 && other.chars() == ['x'].as_slice());
+    Ok(())
+}
+
+#[test]
+fn neighbours_of_one_kind_are_one_part(rt: HostRuntime) -> Result<(), Fail> {
+    let alloc = rt.alloc();
+    assert!(rt; op(alloc, &[])?.is_identity());
+    assert!(rt; op(alloc, &[Keep(1), Keep(2)])?.is_identity());
+    assert!(rt; !op(alloc, &[Put("a")])?.is_identity());
+
+    let mut builder = OpBuilder::new(alloc);
+    builder.insert_chars(&['a', 'b'])?;
+    builder.insert_chars(&['c'])?;
+    assert!(rt; builder.base() == 0 && builder.target() == 3);
+    let mut abc = Text::from_chars(alloc, &['a', 'b'])?;
+    abc.append(&Text::of(alloc, "c")?)?;
+    match builder.finish().parts() {
+        [Part::Insert(text)] => assert!(rt; text.same(&abc)),
+        _ => assert!(rt; false, "other parts"),
+    }
+    Ok(())
+}
