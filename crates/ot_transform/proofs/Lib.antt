@@ -1,0 +1,14 @@
+pub mod Composing
+pub mod Composition
+pub mod GapImages
+pub mod Gaps
+pub mod GoingOn
+pub mod Lengths
+pub mod Merge
+pub mod Rests
+pub mod SoFar
+pub mod SoFarComposed
+pub mod StepLengths
+pub mod Steps
+pub mod Through
+pub mod ToGo

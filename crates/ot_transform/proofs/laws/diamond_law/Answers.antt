@@ -1,0 +1,5 @@
+use Rattle.ot_transform.proofs.Composition.{comp-both_ways}
+use Rattle.ot_transform.proofs.laws.diamond_law.Goals as goal
+
+pub returns : goal.returns
+returns c = comp-both_ways

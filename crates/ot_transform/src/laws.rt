@@ -1,0 +1,62 @@
+//! Laws of transformation, chains and composition: each is the contract of an empty function.
+ghost use Rattle.std.specs.Prelude.{◌≡◌, ◌++◌, List, ℕ, Some, length, map};
+ghost use Rattle.ot_text.specs.Change.{Change, New, base, target, inserted, effect, filled, image};
+ghost use Rattle.ot_transform.specs.Chain.{through, IsRun};
+ghost use Rattle.ot_transform.specs.Composition.{comp};
+ghost use Rattle.ot_transform.specs.Merge.{merge};
+ghost use Rattle.ot_transform.specs.Transform.{left, right, left_image, right_image};
+
+/// Whichever of two operations comes first, the other one moved through it makes the merge of both.
+pub fn merge_law<X>()
+    ensures left { (new_a new_b : ℕ → X) (a b : Change) (m : List X)
+        → base a ≡ length m → base b ≡ length m
+        → effect new_a (left a b) (effect new_b b m) ≡ merge new_a a new_b b m }
+    ensures right { (new_a new_b : ℕ → X) (a b : Change) (m : List X)
+        → base a ≡ length m → base b ≡ length m
+        → effect new_b (right b a) (effect new_a a m) ≡ merge new_a a new_b b m }
+{}
+
+/// The composition has the effect of the first operation, then the second.
+pub fn composition_law<X>()
+    ensures { (new : ℕ → X) (a b : Change) (m : List X) → target a ≡ base b → base a ≡ length m
+        → effect new (comp a b) m ≡ effect new b (effect new a m) }
+{}
+
+/// An operation, and behind it another moved through it, are one operation both ways round.
+pub fn diamond_law()
+    ensures { (a b : Change) → base a ≡ base b → comp a (right b a) ≡ comp b (left a b) }
+{}
+
+/// An operation moved through another has the other's target as its base, and its image gap by gap.
+pub fn transform_gaps_law()
+    ensures left_base { (a b : Change) → base a ≡ base b → base (left a b) ≡ target b }
+    ensures left_image { (a b : Change) → base a ≡ base b → image (left a b) ≡ left_image a b }
+    ensures right_base { (a b : Change) → base a ≡ base b → base (right b a) ≡ target a }
+    ensures right_image { (a b : Change) → base a ≡ base b → image (right b a) ≡ right_image b a }
+{}
+
+/// The composition has the first one's base, and the second one's image with each place replaced by
+/// what the first one's image has there.
+pub fn composed_image_law()
+    ensures base { (a b : Change) → target a ≡ base b → base (comp a b) ≡ base a }
+    ensures image { (a b : Change) → target a ≡ base b
+        → map Some (image (comp a b)) ≡ map (filled New (image a)) (image b) }
+{}
+
+/// Two runs one behind the other are moved through as one run, and an operation moved through a run
+/// puts in as many characters as before.
+pub fn chain_law()
+    ensures append { (a : Change) (bs cs : List Change)
+        → through a (bs ++ cs) ≡ through (through a bs) cs }
+    ensures inserted { (a : Change) (bs : List Change) → IsRun (base a) bs
+        → inserted (through a bs) ≡ inserted a }
+{}
+
+/// A moved operation puts in as many characters as before, both ways round the text has one length,
+/// and composed operations make a text as long as the second one does.
+pub fn lengths_law()
+    ensures inserted_left { (a b : Change) → base a ≡ base b → inserted (left a b) ≡ inserted a }
+    ensures inserted_right { (a b : Change) → base a ≡ base b → inserted (right b a) ≡ inserted b }
+    ensures both { (a b : Change) → base a ≡ base b → target (left a b) ≡ target (right b a) }
+    ensures composed { (a b : Change) → target a ≡ base b → target (comp a b) ≡ target b }
+{}
