@@ -1,0 +1,3 @@
+pub mod Authorship
+pub mod RunEnds
+pub mod Runs

@@ -1,0 +1,7 @@
+pub mod BlockPlaces
+pub mod BlockSteps
+pub mod LargestRun
+pub mod LineLists
+pub mod LinePlaces
+pub mod LinesNumbered
+pub mod Pairs

@@ -1,0 +1,16 @@
+//! The document that the performers write: each character with the number of who put it in.
+//!
+//! A contract sees a `Doc` as the list of pairs of a character and a performer's number, and the
+//! number `ready`, the longest list that the next operation may make without memory.
+#![tactic(auto)]
+
+mod block;
+mod chars;
+mod doc;
+mod laws;
+
+pub use doc::Doc;
+pub use laws::{block_law, lines_law};
+
+#[cfg(test)]
+mod tests;
