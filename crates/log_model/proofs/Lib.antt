@@ -1,2 +1,5 @@
 pub mod Lists
+pub mod Documents
+pub mod Placing
 pub mod Histories
+pub mod Members

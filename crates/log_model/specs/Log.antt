@@ -1,26 +1,31 @@
--- A log: its members, its document, and what a call is answered and makes at it.
-use Rattle.std.specs.Prelude.{ℕ, ◌+◌, List, [], ◌∷◌, ◌++◌, length, Bool, true, false, not, count_by, ◌&&◌, ◌==◌, if◌then◌else◌}
+-- A log: its members, its operations, its document and its entries.
+use Rattle.std.specs.Prelude.{ℕ, suc, List, [], ◌∷◌, Bool, true, false, not, count_by, ◌&&◌, ◌==◌, Option, None, Some}
 use Rattle.std.specs.List.{list_any}
-use Rattle.ot_text.specs.Marked.{Marked}
+use Rattle.ot_text.specs.Change.{Change, effect}
+use Rattle.ot_text.specs.Marked.{Marked, marked}
 use Rattle.troop_entry.specs.declared.call.Call.{Call}
 use Rattle.troop_entry.specs.declared.call.Call.TheVariants as call
-use Rattle.troop_entry.specs.declared.reply.Reply.{Reply}
-use Rattle.troop_entry.specs.declared.reply.Reply.TheVariants as reply
+use Rattle.troop_entry.specs.declared.entry.Entry.{Entry}
 use Rattle.troop_entry.specs.declared.row.Row.{Row}
-
--- how many joins one log takes
-abbrev pub most_joins : ℕ
-most_joins = 4096
+use Rattle.troop_entry.specs.Entries.{entry_of}
 
 -- ---- its members
 
 -- whether the call is a join
 abbrev pub is_join : Call → Bool
 is_join (call.Join name lang) = true
+is_join call.Leave = false
+is_join (call.Edit seen op) = false
+is_join (call.Eval seen text) = false
+is_join (call.Reset seen text) = false
 
 -- whether the call is a leave
 abbrev pub is_leave : Call → Bool
 is_leave (call.Join name lang) = false
+is_leave call.Leave = true
+is_leave (call.Edit seen op) = false
+is_leave (call.Eval seen text) = false
+is_leave (call.Reset seen text) = false
 
 -- whether the row is a join of this performer
 abbrev pub is_join_by : ℕ → Row → Bool
@@ -34,45 +39,51 @@ is_leave_by who row = is_leave row.call && (row.who == who)
 abbrev pub join_count : List Row → ℕ
 join_count log = count_by (λ row. is_join row.call) log
 
+-- whether the performer has a join row
+abbrev pub has_join : List Row → ℕ → Bool
+has_join log who = list_any (is_join_by who) log
+
+-- whether the performer has a leave row
+abbrev pub has_leave : List Row → ℕ → Bool
+has_leave log who = list_any (is_leave_by who) log
+
 -- whether the performer has a join row, and no leave row
 abbrev pub is_member : List Row → ℕ → Bool
-is_member log who = list_any (is_join_by who) log && not (list_any (is_leave_by who) log)
+is_member log who = has_join log who && not (has_leave log who)
 
--- ---- its document
+-- ---- its operations and its document
 
--- what a performer's call does to the document: a join does nothing to it
-abbrev pub changed_by : ℕ → Call → Marked → Marked
-changed_by who (call.Join name lang) m = m
+-- one operation in front of these, if there is one
+abbrev pub with_op : Option Change → List Change → List Change
+with_op None ops = ops
+with_op (Some op) ops = op ∷ ops
+
+-- the operations of the rows that have one, in order
+abbrev pub ops : List Row → List Change
+ops [] = []
+ops (row ∷ rows) = with_op row.op (ops rows)
+
+-- a document after an operation by this performer, if there is one
+abbrev pub changed_by : ℕ → Option Change → Marked → Marked
+changed_by who None m = m
+changed_by who (Some op) m = effect (marked who) op m
 
 -- the document behind these rows, from m on
 abbrev pub doc_on : Marked → List Row → Marked
 doc_on m [] = m
-doc_on m (row ∷ rows) = doc_on (changed_by row.who row.call m) rows
+doc_on m (row ∷ rows) = doc_on (changed_by row.who row.op m) rows
 
--- the document of a log: what its rows make of the empty text, one after the other
+-- the document of a log: the effect of each operation, by its row's performer, one after the other, from the empty text
 abbrev pub doc : List Row → Marked
 doc log = doc_on [] log
 
--- ---- answers and rows
+-- ---- its entries
 
--- the answer to a performer's call at a log; at a join the performer's number isn't looked at
-abbrev pub answer : List Row → ℕ → Call → Reply
-answer log who (call.Join name lang) =
-    if join_count log == most_joins then reply.Crowded most_joins else reply.Placed (length log) (join_count log + 1)
+-- the entries of these rows, of which the first stands at this place
+abbrev pub entries_from : ℕ → List Row → List Entry
+entries_from at [] = []
+entries_from at (row ∷ rows) = entry_of at row ∷ entries_from (suc at) rows
 
--- whose row a placed call makes: a join's is one more than the number of joins before it
-abbrev pub author : List Row → ℕ → Call → ℕ
-author log who (call.Join name lang) = join_count log + 1
-
--- the row that a placed call makes
-abbrev pub made : List Row → ℕ → ℕ → Call → Row
-made log seat who c = record { who = author log who c; seat = seat; call = c }
-
--- whether the call was placed
-abbrev pub is_placed : Reply → Bool
-is_placed (reply.Placed at who) = true
-is_placed (reply.Crowded joins) = false
-
--- the log after a call: a placed call appends the row that it makes, and any other answer nothing
-abbrev pub after : List Row → ℕ → ℕ → Call → List Row
-after log seat who c = if is_placed (answer log who c) then log ++ made log seat who c ∷ [] else log
+-- the entries of a log
+abbrev pub entries : List Row → List Entry
+entries log = entries_from 0 log

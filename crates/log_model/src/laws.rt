@@ -1,9 +1,13 @@
-//! Laws of legal logs.
-ghost use Rattle.std.specs.Prelude.{◌≡◌, ◌≤◌, ◌&&◌, ℕ, List, take, nat_le};
+//! Laws of legal logs, each the contract of a function that does nothing.
+ghost use Rattle.std.specs.Prelude.{◌≡◌, ◌≤◌, ◌&&◌, ◌∷◌, ◌++◌, [], true, ℕ, List, length, take, nat_le, Some, slice_get};
+ghost use Rattle.ot_text.specs.Change.{Change, base};
 ghost use Rattle.troop_entry.specs.declared.call.Call.{Call};
+ghost use Rattle.troop_entry.specs.declared.call.Call.TheVariants.{Edit};
+ghost use Rattle.troop_entry.specs.declared.reply.Reply.TheVariants.{Placed};
 ghost use Rattle.troop_entry.specs.declared.row.Row.{Row};
-ghost use Rattle.log_model.specs.Log.{most_joins, join_count, is_member, after};
-ghost use Rattle.log_model.specs.Legal.{IsLegal};
+ghost use Rattle.log_model.specs.Log.{join_count, has_join, is_member, changed_by, doc};
+ghost use Rattle.log_model.specs.Answers.{most_joins, answer, after};
+ghost use Rattle.log_model.specs.Legal.{IsLegal, OpFits, HasSeenAtMost};
 
 /// A legal log stays legal, whatever is asked of it.
 pub fn call_law()
@@ -15,9 +19,32 @@ pub fn front_law()
     ensures { (log : List Row) (n : ℕ) → IsLegal log → IsLegal (take n log) }
 {}
 
-/// The members of a legal log are numbered from 1, and there are no more than the most that may join.
+/// A legal log has no more joins than the most that it takes, and its performers are numbered from 1.
 pub fn numbers_law()
     ensures few { (log : List Row) → IsLegal log → join_count log ≤ most_joins }
-    ensures members { (log : List Row) (who : ℕ) → IsLegal log
-        → is_member log who ≡ (nat_le 1 who && nat_le who (join_count log)) }
+    ensures numbers { (log : List Row) (who : ℕ) → IsLegal log
+        → has_join log who ≡ (nat_le 1 who && nat_le who (join_count log)) }
+{}
+
+/// One more row changes the document by its operation, if it has one.
+pub fn document_law()
+    ensures { (log : List Row) (row : Row) → doc (log ++ row ∷ []) ≡ changed_by row.who row.op (doc log) }
+{}
+
+/// In a legal log the operation of each row fits the document of the rows in front of it.
+pub fn fits_law()
+    ensures { (log : List Row) (i : ℕ) (row : Row) → IsLegal log → slice_get log i ≡ Some row
+        → OpFits row.op (length (doc (take i log))) }
+{}
+
+/// In a legal log each edit, evaluation and reset stands behind all that its maker had seen.
+pub fn seen_law()
+    ensures { (log : List Row) (i : ℕ) (row : Row) → IsLegal log → slice_get log i ≡ Some row
+        → HasSeenAtMost i row.call }
+{}
+
+/// An edit by a member is placed wherever it knows a revision of the log, and fits the document of it.
+pub fn placed_law()
+    ensures { (log : List Row) (who seen : ℕ) (op : Change) → is_member log who ≡ true → seen ≤ length log
+        → base op ≡ length (doc (take seen log)) → answer log who (Edit seen op) ≡ Placed (length log) who }
 {}
