@@ -8,8 +8,8 @@ use Rattle.troop_main.specs.declared.outcome.Outcome.TheVariants as outcome
 use Rattle.troop_main.specs.Lines.{lines}
 use Rattle.troop_main.specs.Script.{first_unbuilt}
 use Rattle.troop_main.specs.Input.{most_input}
-use Rattle.troop_main.specs.Ports.{Port, IsFaulted, IsAtEnd, Gave, Reported}
-use Rattle.troop_main.specs.Statuses.{IsBuilt, IsUnbuiltAt, Says, code_of, error_line}
+use Rattle.troop_main.specs.Ports.{Port, IsFaulted, Gave, Reported}
+use Rattle.troop_main.specs.Statuses.{IsUnbuiltAt, Says, code_of, error_line}
 use Rattle.troop_main.specs.Exactly.{TooMuchExactly, UnbuiltExactly}
 
 -- as many bytes were taken as are missing

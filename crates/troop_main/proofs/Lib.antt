@@ -1,7 +1,8 @@
 pub mod Texts
+pub mod PartLists
 pub mod LineSplits
 pub mod LinePieces
 pub mod Reports
 pub mod Fronts
-pub mod Worlds
+pub mod Printing
 pub mod Exact

@@ -1,6 +1,6 @@
 -- The lines are the pieces between line feeds, and what stands behind the last one.
 use Rattle.std.proofs.Common.{◌≡◌, ℕ, Bool, true, false, ◌||◌, List, [], ◌∷◌, ◌++◌, refl, ◌∙◌, ap, append_assoc}
-use Rattle.std.specs.Prelude.{◌==◌, All}
+use Rattle.std.specs.Prelude.{◌==◌}
 use Rattle.std.specs.List.{list_any}
 use Rattle.std.proofs.lemmas.List.Elements.{All-head, All-tail}
 use Rattle.troop_main.specs.Lines.{line_feed, onto_first_line, lines, HasNoFeed, with_feeds, last_line, LinesArePieces}

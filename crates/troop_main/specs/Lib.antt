@@ -1,4 +1,5 @@
 pub mod Lines
+pub mod Values
 pub mod Grammar
 pub mod Printed
 pub mod Script

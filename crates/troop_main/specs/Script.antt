@@ -2,7 +2,8 @@
 use Rattle.std.specs.Prelude.{ℕ, ◌+◌, List, [], ◌∷◌, ◌++◌, length, Bool, true, false, Option, Some, None, if◌then◌else◌}
 use Rattle.troop_entry.specs.declared.call.Call.TheVariants as call
 use Rattle.troop_entry.specs.declared.row.Row.{Row}
-use Rattle.log_model.specs.Log.{answer, after, doc}
+use Rattle.log_model.specs.Log.{doc}
+use Rattle.log_model.specs.Answers.{answer, after}
 use Rattle.troop_main.specs.declared.grammar.Step.{Step}
 use Rattle.troop_main.specs.declared.grammar.Step.TheVariants as step
 use Rattle.troop_main.specs.declared.grammar.Meaning.{Meaning}
@@ -13,10 +14,12 @@ use Rattle.troop_main.specs.Printed.{reply_line, server_line}
 -- the log after a step; the calls of a script come through seat 0
 abbrev pub after_step : List Row → Step → List Row
 after_step log (step.Guest name lang) = after log 0 0 (call.Join name lang)
+after_step log (step.Call who c) = after log 0 who c
 
 -- what a step prints
 abbrev pub shown_step : List Row → Step → List ℕ
 shown_step log (step.Guest name lang) = reply_line (answer log 0 (call.Join name lang))
+shown_step log (step.Call who c) = reply_line (answer log who c)
 
 -- the log after a line; a line that isn't a step leaves it as it is
 abbrev pub after_meaning : List Row → Meaning → List Row

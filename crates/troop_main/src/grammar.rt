@@ -1,21 +1,22 @@
 //! The steps of a script, read from its lines.
 ghost use Rattle.std.specs.Prelude.{◌≡◌, IfOk, map, option_map};
 ghost use Rattle.serde_json.specs.View.{view};
-ghost use Rattle.troop_main.specs.Grammar.{is_blank, value_of, name_of, lang_of, guest_of, step_of_word, step_of_data, step_of, meaning_of};
+ghost use Rattle.troop_main.specs.Grammar.{is_blank, value_of, guest_step, call_step, step_of_word, step_of_data, step_of, meaning_of};
 
+use crate::requests::read_call;
+use crate::values::{read_lang, read_name, read_who};
 use ot_text::Text;
 use serde_json::Value;
 use std::alloc::{AllocError, Global};
-use troop_entry::Lang;
-
-/// How many characters a name may have.
-const LONGEST_NAME: u64 = 32;
+use troop_entry::{Call, Lang};
 
 /// A step of a script.
 #[derive(Debug, Drop)]
 pub enum Step {
     /// A performer of this name joins, and is played by the script's calls.
     Guest { name: Text, lang: Lang },
+    /// A call by the performer of this number, other than a join.
+    Call { who: u32, call: Call },
 }
 
 /// What a line means.
@@ -96,9 +97,11 @@ fn read_others(alloc: Global, word: &str, others: &[Value]) -> Result<Option<Ste
     ensures { IfOk result (λ step. step ≡ step_of_word word.now (map view others.now)) }
 {
     match others {
-        [name, lang] => {
+        [first, second] => {
             if word == "guest" {
-                read_guest(alloc, name, lang)
+                read_guest(alloc, first, second)
+            } else if word == "call" {
+                read_call_step(alloc, first, second)
             } else {
                 Ok(None)
             }
@@ -108,7 +111,7 @@ fn read_others(alloc: Global, word: &str, others: &[Value]) -> Result<Option<Ste
 }
 
 fn read_guest(alloc: Global, name: &Value, lang: &Value) -> Result<Option<Step>, AllocError>
-    ensures { IfOk result (λ step. step ≡ guest_of (view name.now) (view lang.now)) }
+    ensures { IfOk result (λ step. step ≡ guest_step (view name.now) (view lang.now)) }
 {
     let Some(name) = read_name(alloc, name)? else {
         return Ok(None);
@@ -119,29 +122,14 @@ fn read_guest(alloc: Global, name: &Value, lang: &Value) -> Result<Option<Step>,
     }
 }
 
-fn read_name(alloc: Global, value: &Value) -> Result<Option<Text>, AllocError>
-    ensures { IfOk result (λ name. name ≡ name_of (view value.now)) }
+fn read_call_step(alloc: Global, who: &Value, request: &Value) -> Result<Option<Step>, AllocError>
+    ensures { IfOk result (λ step. step ≡ call_step (view who.now) (view request.now)) }
 {
-    let Some(text) = value.as_str() else {
+    let Some(who) = read_who(who) else {
         return Ok(None);
     };
-    let name = Text::of(alloc, text)?;
-    if 1 <= name.len() && name.len() <= LONGEST_NAME {
-        Ok(Some(name))
-    } else {
-        Ok(None)
-    }
-}
-
-fn read_lang(value: &Value) -> Option<Lang>
-    ensures { result ≡ lang_of (view value.now) }
-{
-    let text = value.as_str()?;
-    if text == "lines" {
-        Some(Lang::Lines)
-    } else if text == "ghci" {
-        Some(Lang::Ghci)
-    } else {
-        None
+    match read_call(alloc, request)? {
+        Some(call) => Ok(Some(Step::Call { who, call })),
+        None => Ok(None),
     }
 }

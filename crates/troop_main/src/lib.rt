@@ -8,14 +8,17 @@ mod grammar;
 mod input;
 mod laws;
 mod lines;
+mod operations;
 mod outcome;
 mod play;
 mod print;
 mod report;
+mod requests;
 mod runs;
 #[cfg(test)]
 mod tests;
 mod top;
+mod values;
 mod words;
 
 pub use laws::{done_exactly, faults_exactly, lines_law, too_much_exactly, unbuilt_exactly};

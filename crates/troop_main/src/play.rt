@@ -12,6 +12,9 @@ use revision_log::Desk;
 use std::alloc::{AllocError, AllocFailed, Global};
 use troop_entry::Call;
 
+/// The seat through which the calls of a script come.
+const SEAT: u64 = 0;
+
 /// Why a script was not played to its end.
 #[derive(Clone, Copy, Debug, PartialEq, Eq)]
 pub enum PlayError {
@@ -81,7 +84,7 @@ fn play_line(
     }
 }
 
-// Plays one step, and adds what it prints. The calls of a script come through seat 0.
+// Plays one step, and adds what it prints.
 fn play_step(
     alloc: Global,
     step: Step,
@@ -91,10 +94,9 @@ fn play_step(
     ensures log { OnOk result (desk.new ≡ after_step desk.old step) }
     ensures shown { OnOk result (shown.new.items ≡ shown.old.items ++ shown_step desk.old step) }
 {
-    match step {
-        Step::Guest { name, lang } => {
-            let reply = desk.serve(0, 0, &Call::Join { name, lang })?;
-            shown.extend_from_slice(&print_reply(alloc, reply)?)
-        }
-    }
+    let reply = match step {
+        Step::Guest { name, lang } => desk.serve(SEAT, 0, &Call::Join { name, lang })?,
+        Step::Call { who, call } => desk.serve(SEAT, who, &call)?,
+    };
+    shown.extend_from_slice(&print_reply(alloc, reply)?)
 }

@@ -1,20 +1,26 @@
 //! The printed lines.
-ghost use Rattle.std.specs.Prelude.{◌≡◌, [], length, false, IfOk};
+ghost use Rattle.std.specs.Prelude.{◌≡◌, false, IfOk, length, map, encode_utf8_all, string_bytes};
+ghost use Rattle.serde_json.specs.Data.{array};
 ghost use Rattle.serde_json.specs.Written.{has_float};
-ghost use Rattle.serde_json.specs.View.{view};
+ghost use Rattle.serde_json.specs.View.{view, items_of};
 ghost use Rattle.log_model.specs.Log.{doc};
-ghost use Rattle.troop_main.specs.Printed.{line_of, server_data, server_line, crowded_data, reply_line};
+ghost use Rattle.troop_main.specs.Printed.{line_of, run_data, document_data, server_line, member_data, ahead_data, base_data, crowded_data, reply_line};
 
+use author_marks::Run;
+use ot_text::Text;
 use revision_log::Desk;
 use serde_json::{Value, json};
 use std::alloc::{AllocError, Global};
 use troop_entry::Reply;
 
-/// The server's line of a log. Joins make no text, so none is printed.
+/// The server's line of a log.
 pub fn print_server(alloc: Global, desk: &Desk) -> Result<Vec<u8>, AllocError>
     ensures { IfOk result (λ line. line.items ≡ server_line (length desk.now) (doc desk.now)) }
 {
-    let value = server_value(alloc, desk.length())?;
+    let doc = desk.doc();
+    let marks = runs_value(alloc, &doc.runs()?)?;
+    let text = utf8_of(alloc, &doc.text()?)?;
+    let value = server_value(alloc, desk.length(), marks, text)?;
     print_value(alloc, &value)
 }
 
@@ -24,23 +30,70 @@ pub fn print_reply(alloc: Global, reply: Reply) -> Result<Vec<u8>, AllocError>
 {
     match reply {
         Reply::Placed { .. } => Ok(Vec::new(alloc)),
-        Reply::Crowded { joins } => {
-            let value = crowded_value(alloc, joins)?;
-            print_value(alloc, &value)
-        }
+        Reply::NotMember { who } => print_value(alloc, &member_value(alloc, who)?),
+        Reply::Ahead { seen, length } => print_value(alloc, &ahead_value(alloc, seen, length)?),
+        Reply::BadBase { want, got } => print_value(alloc, &base_value(alloc, want, got)?),
+        Reply::Crowded { joins } => print_value(alloc, &crowded_value(alloc, joins)?),
     }
 }
 
-fn server_value(alloc: Global, entries: u64) -> Result<Value, AllocError>
-    ensures { IfOk result (λ v. view v ≡ server_data entries []) }
+fn member_value(alloc: Global, who: u32) -> Result<Value, AllocError>
+    ensures { IfOk result (λ v. view v ≡ member_data who) }
 {
-    json!(in alloc; {"entries": entries, "marks": [], "text": ""})
+    json!(in alloc; {"no": "member", "who": who})
+}
+
+fn ahead_value(alloc: Global, seen: u64, length: u64) -> Result<Value, AllocError>
+    ensures { IfOk result (λ v. view v ≡ ahead_data seen length) }
+{
+    json!(in alloc; {"length": length, "no": "ahead", "seen": seen})
+}
+
+fn base_value(alloc: Global, want: u64, got: u64) -> Result<Value, AllocError>
+    ensures { IfOk result (λ v. view v ≡ base_data want got) }
+{
+    json!(in alloc; {"got": got, "no": "base", "want": want})
 }
 
 fn crowded_value(alloc: Global, joins: u64) -> Result<Value, AllocError>
     ensures { IfOk result (λ v. view v ≡ crowded_data joins) }
 {
     json!(in alloc; {"joins": joins, "no": "crowded"})
+}
+
+fn server_value(
+    alloc: Global,
+    entries: u64,
+    marks: Value,
+    text: String,
+) -> Result<Value, AllocError>
+    ensures { IfOk result (λ v. view v ≡ document_data entries (view marks) (string_bytes text)) }
+{
+    json!(in alloc; {"entries": entries, "marks": marks, "text": text})
+}
+
+// The runs of marks as an array of pairs.
+fn runs_value(alloc: Global, runs: &[Run]) -> Result<Value, AllocError>
+    ensures { IfOk result (λ v. view v ≡ array (items_of (map run_data runs.now))) }
+{
+    let mut items = Vec::new(alloc);
+    for run in runs {
+        items.push(run_value(alloc, run)?)?;
+    }
+    Ok(Value::Array(items))
+}
+
+fn run_value(alloc: Global, run: &Run) -> Result<Value, AllocError>
+    ensures { IfOk result (λ v. view v ≡ run_data run.now) }
+{
+    json!(in alloc; [run.who, run.count])
+}
+
+// The text in UTF-8.
+fn utf8_of(alloc: Global, text: &Text) -> Result<String, AllocError>
+    ensures { IfOk result (λ string. string_bytes string ≡ encode_utf8_all text.now) }
+{
+    text.chars().iter().copied().collect(alloc)
 }
 
 // The compact text of a value, and a line feed.

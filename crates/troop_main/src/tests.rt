@@ -88,21 +88,153 @@ fn a_script_of_guests_prints_how_many_there_are(rt: HostRuntime) -> Result<(), F
     Ok(())
 }
 
+/// A guest, and its edit that puts `hi` in.
+const FIRST_RUN: &str = r#"["guest","ann","lines"]
+["call",1,{"call":"edit","op":["hi"],"seen":1}]
+"#;
+
+#[test]
+fn the_first_run_prints_the_text_and_its_marks(rt: HostRuntime) -> Result<(), Fail> {
+    let ran = run(rt.alloc(), &["replay"], FIRST_RUN.as_bytes(), NO_FAULTS)?;
+    assert_eq!(rt; ran.code, 0);
+    assert_eq!(rt;
+        ran.out.as_slice(),
+        b"{\"entries\":2,\"marks\":[[1,2]],\"text\":\"hi\"}\n".as_slice()
+    );
+    Ok(())
+}
+
+#[test]
+fn calls_behind_the_first_run_are_placed_or_refused(rt: HostRuntime) -> Result<(), Fail> {
+    let cases: [(&str, &str); 8] = [
+        // Its base isn't the document's length.
+        (
+            r#"["call",1,{"call":"edit","op":[5],"seen":2}]"#,
+            "{\"got\":2,\"no\":\"base\",\"want\":5}\n{\"entries\":2,\"marks\":[[1,2]],\"text\":\"hi\"}\n",
+        ),
+        // An edit at an older revision stands in front of what was put in at the same place since.
+        (
+            r#"["call",1,{"call":"edit","op":["ho"],"seen":1}]"#,
+            "{\"entries\":3,\"marks\":[[1,4]],\"text\":\"hohi\"}\n",
+        ),
+        // It keeps all, and changes nothing.
+        (
+            r#"["call",1,{"call":"edit","op":[2],"seen":2}]"#,
+            "{\"entries\":3,\"marks\":[[1,2]],\"text\":\"hi\"}\n",
+        ),
+        // Another spelling of ["x",-2], and keys that are ignored.
+        (
+            r#"["call",1,{"call":"edit","op":[0,"",-1,-1,"x"],"seen":2,"to":1,"who":"me"}]"#,
+            "{\"entries\":3,\"marks\":[[1,1]],\"text\":\"x\"}\n",
+        ),
+        // An evaluation and a reset at older revisions.
+        (
+            r#"["call",1,{"call":"eval","seen":0,"text":"d1 $ s \"bd\""}]"#,
+            "{\"entries\":3,\"marks\":[[1,2]],\"text\":\"hi\"}\n",
+        ),
+        (
+            r#"["call",1,{"call":"reset","seen":0,"text":"a😀b\n"}]"#,
+            "{\"entries\":3,\"marks\":[[1,4]],\"text\":\"a😀b\\n\"}\n",
+        ),
+        // Nobody has this number.
+        (
+            r#"["call",2,{"call":"leave"}]"#,
+            "{\"no\":\"member\",\"who\":2}\n{\"entries\":2,\"marks\":[[1,2]],\"text\":\"hi\"}\n",
+        ),
+        (
+            r#"["call",1,{"call":"leave"}]"#,
+            "{\"entries\":3,\"marks\":[[1,2]],\"text\":\"hi\"}\n",
+        ),
+    ];
+    for (line, want) in cases {
+        let mut script = String::from_str(rt.alloc(), FIRST_RUN)?;
+        script.push_str(line)?;
+        let ran = run(rt.alloc(), &["replay"], script.as_bytes(), NO_FAULTS)?;
+        assert_eq!(rt; ran.code, 0, "{line}");
+        assert_eq!(rt; ran.out.as_slice(), want.as_bytes(), "{line}");
+    }
+    Ok(())
+}
+
+#[test]
+fn longer_scripts_print_their_lines(rt: HostRuntime) -> Result<(), Fail> {
+    let cases: [(&str, &str); 4] = [
+        // The least edit on the empty text.
+        (
+            r#"["guest","ann","lines"]
+["call",1,{"call":"edit","op":[],"seen":1}]"#,
+            "{\"entries\":2,\"marks\":[],\"text\":\"\"}\n",
+        ),
+        // A reset goes in between an edit and what it was made on.
+        (
+            r#"["guest","ann","lines"]
+["guest","bob","lines"]
+["call",1,{"call":"edit","op":["abc"],"seen":2}]
+["call",2,{"call":"reset","seen":3,"text":"new"}]
+["call",1,{"call":"edit","op":[1,"X",2],"seen":3}]"#,
+            "{\"entries\":5,\"marks\":[[2,3],[1,1]],\"text\":\"newX\"}\n",
+        ),
+        // A call that is ahead, and one by a performer who has left.
+        (
+            r#"["guest","ann","lines"]
+["guest","bob","lines"]
+["call",1,{"call":"edit","op":["abc"],"seen":2}]
+["call",1,{"call":"edit","op":[3,"d"],"seen":9}]
+["call",1,{"call":"edit","op":[3,"d"],"seen":3}]
+["call",2,{"call":"leave"}]
+["call",2,{"call":"leave"}]"#,
+            "{\"length\":3,\"no\":\"ahead\",\"seen\":9}\n{\"no\":\"member\",\"who\":2}\n{\"entries\":5,\"marks\":[[1,4]],\"text\":\"abcd\"}\n",
+        ),
+        // Characters beyond one byte are one place each.
+        (
+            r#"["guest","ann","lines"]
+["call",1,{"call":"edit","op":["a"],"seen":1}]
+["call",1,{"call":"edit","op":[1,"😀"],"seen":2}]
+["call",1,{"call":"edit","op":[2,"b"],"seen":3}]"#,
+            "{\"entries\":4,\"marks\":[[1,3]],\"text\":\"a😀b\"}\n",
+        ),
+    ];
+    for (script, want) in cases {
+        let ran = run(rt.alloc(), &["replay"], script.as_bytes(), NO_FAULTS)?;
+        assert_eq!(rt; ran.code, 0, "{script}");
+        assert_eq!(rt; ran.out.as_slice(), want.as_bytes(), "{script}");
+    }
+    Ok(())
+}
+
 #[test]
 fn the_first_line_that_is_not_built_is_named(rt: HostRuntime) -> Result<(), Fail> {
-    let lines: [&[u8]; 9] = [
-        b"[\"guest\",\"\",\"lines\"]",
+    let lines: [&[u8]; 23] = [
+        br#"["guest","","lines"]"#,
         // 33 characters.
-        b"[\"guest\",\"abcdefghijklmnopqrstuvwxyz0123456\",\"lines\"]",
-        "[\"guest\",\"éééééééééééééééééééééééééééééééé😀\",\"lines\"]".as_bytes(),
+        br#"["guest","abcdefghijklmnopqrstuvwxyz0123456","lines"]"#,
+        r#"["guest","éééééééééééééééééééééééééééééééé😀","lines"]"#.as_bytes(),
         // Not exactly three elements.
-        b"[\"guest\",\"ann\"]",
-        b"[\"guest\",\"ann\",\"lines\",1]",
-        b"[\"guest\",\"ann\",\"tidal\"]",
-        b"{\"guest\":\"ann\"}",
-        b"[\"dance\"]",
-        // No UTF-8.
+        br#"["guest","ann"]"#,
+        br#"["guest","ann","lines",1]"#,
+        br#"["guest","ann","tidal"]"#,
+        br#"{"guest":"ann"}"#,
+        br#"["dance"]"#,
+        // No UTF-8, and no JSON.
         b"\xff\xfe",
+        br#"["guest","ann""#,
+        // No number of a performer.
+        br#"["call",4294967296,{"call":"leave"}]"#,
+        br#"["call",-1,{"call":"leave"}]"#,
+        // No call of a script.
+        br#"["call",1,{"call":"join","lang":"lines","name":"bob"}]"#,
+        br#"["call",1,"leave"]"#,
+        br#"["call",1,{"call":"edit","op":[]}]"#,
+        br#"["call",1,{"call":"eval","seen":0,"text":1}]"#,
+        // No counts.
+        br#"["call",1,{"call":"eval","seen":1.0,"text":""}]"#,
+        br#"["call",1,{"call":"reset","seen":9007199254740992,"text":""}]"#,
+        // No operations.
+        br#"["call",1,{"call":"edit","op":[9007199254740992],"seen":0}]"#,
+        br#"["call",1,{"call":"edit","op":[9007199254740991,-1],"seen":0}]"#,
+        br#"["call",1,{"call":"edit","op":[1.0],"seen":0}]"#,
+        br#"["call",1,{"call":"edit","op":[1e0],"seen":0}]"#,
+        br#"["call",1,{"call":"edit","op":[true],"seen":0}]"#,
     ];
     for line in lines {
         let mut script = Vec::from_slice(rt.alloc(), b"[\"guest\",\"ann\",\"lines\"]\n\n")?;

@@ -1,0 +1,101 @@
+//! The calls that a script's requests ask.
+ghost use Rattle.std.specs.Prelude.{◌≡◌, IfOk};
+ghost use Rattle.serde_json.specs.View.{view};
+ghost use Rattle.troop_main.specs.Grammar.{seen_of, op_field, text_field, edit_of, eval_of, reset_of, call_of_word, call_of};
+
+use crate::operations::read_op;
+use crate::values::{read_count, read_text};
+use ot_text::{Op, Text};
+use serde_json::Value;
+use std::alloc::{AllocError, Global};
+use troop_entry::Call;
+
+/// The call of a request: a leave, an edit, an evaluation or a reset.
+pub fn read_call(alloc: Global, request: &Value) -> Result<Option<Call>, AllocError>
+    ensures { IfOk result (λ call. call ≡ call_of (view request.now)) }
+{
+    let Some(word) = request.get("call") else {
+        return Ok(None);
+    };
+    match word.as_str() {
+        Some(word) => read_call_of(alloc, word, request),
+        None => Ok(None),
+    }
+}
+
+// The call of a request that asks this.
+fn read_call_of(alloc: Global, word: &str, request: &Value) -> Result<Option<Call>, AllocError>
+    ensures { IfOk result (λ call. call ≡ call_of_word word.now (view request.now)) }
+{
+    if word == "leave" {
+        Ok(Some(Call::Leave))
+    } else if word == "edit" {
+        read_edit(alloc, request)
+    } else if word == "eval" {
+        read_eval(alloc, request)
+    } else if word == "reset" {
+        read_reset(alloc, request)
+    } else {
+        Ok(None)
+    }
+}
+
+fn read_edit(alloc: Global, request: &Value) -> Result<Option<Call>, AllocError>
+    ensures { IfOk result (λ call. call ≡ edit_of (view request.now)) }
+{
+    let Some(seen) = read_seen(request) else {
+        return Ok(None);
+    };
+    match read_op_field(alloc, request)? {
+        Some(op) => Ok(Some(Call::Edit { seen, op })),
+        None => Ok(None),
+    }
+}
+
+fn read_eval(alloc: Global, request: &Value) -> Result<Option<Call>, AllocError>
+    ensures { IfOk result (λ call. call ≡ eval_of (view request.now)) }
+{
+    let Some(seen) = read_seen(request) else {
+        return Ok(None);
+    };
+    match read_text_field(alloc, request)? {
+        Some(text) => Ok(Some(Call::Eval { seen, text })),
+        None => Ok(None),
+    }
+}
+
+fn read_reset(alloc: Global, request: &Value) -> Result<Option<Call>, AllocError>
+    ensures { IfOk result (λ call. call ≡ reset_of (view request.now)) }
+{
+    let Some(seen) = read_seen(request) else {
+        return Ok(None);
+    };
+    match read_text_field(alloc, request)? {
+        Some(text) => Ok(Some(Call::Reset { seen, text })),
+        None => Ok(None),
+    }
+}
+
+fn read_seen(request: &Value) -> Option<u64>
+    ensures { result ≡ seen_of (view request.now) }
+{
+    read_count(request.get("seen")?)
+}
+
+fn read_op_field(alloc: Global, request: &Value) -> Result<Option<Op>, AllocError>
+    ensures { IfOk result (λ op. op ≡ op_field (view request.now)) }
+{
+    match request.get("op") {
+        Some(value) => read_op(alloc, value),
+        None => Ok(None),
+    }
+}
+
+fn read_text_field(alloc: Global, request: &Value) -> Result<Option<Text>, AllocError>
+    ensures { IfOk result (λ text. text ≡ text_field (view request.now)) }
+{
+    match request.get("text") {
+        Some(value) => read_text(alloc, value),
+        None => Ok(None),
+    }
+}
