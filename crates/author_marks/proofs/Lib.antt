@@ -1,3 +1,3 @@
-pub mod Pieced
+pub mod Rewritten
 pub mod RunsOf
 pub mod RunsMade

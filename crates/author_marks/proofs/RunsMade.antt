@@ -1,5 +1,5 @@
 -- The runs of marks, made mark by mark from the front on.
-use Rattle.std.proofs.Common.{◌≡◌, ℕ, zero, suc, ◌+◌, ◌-◌, ◌<◌, ◌≤◌, List, [], ◌∷◌, ◌++◌, length, get_or, take, map, replicate, cond, true, false, refl, sym, ap, ◌∙◌, length-append, arith}
+use Rattle.std.proofs.Common.{◌≡◌, ℕ, zero, suc, ◌+◌, ◌-◌, ◌<◌, ◌≤◌, List, [], ◌∷◌, ◌++◌, length, get_or, take, map, replicate, refl, sym, ap, ◌∙◌, length-append, arith}
 use Rattle.std.proofs.lemmas.Bool.{eq-eqb, ne_eqb}
 use Rattle.std.proofs.lemmas.Bool.Decides.{nat_tests}
 use Rattle.std.proofs.lemmas.List.{length-map, length-replicate, get_or-map, take_more}
@@ -13,27 +13,29 @@ use Rattle.author_marks.proofs.RunsOf.{runs_of-are}
 -- `with_first`, for runs
 abbrev put_first : ℕ → List Run → List Run
 put_first who [] = record { who = who; count = 1 } ∷ []
-put_first who (run ∷ runs) = if who == run.who then record { who = run.who; count = run.count + 1 } ∷ runs else record { who = who; count = 1 } ∷ run ∷ runs
+put_first who (run ∷ runs) =
+    if who == run.who then record { who = run.who; count = run.count + 1 } ∷ runs
+    else record { who = who; count = 1 } ∷ run ∷ runs
 
 map-with_first : (who : ℕ) (runs : List (ℕ × ℕ)) → map run_of (with_first who runs) ≡ put_first who (map run_of runs)
 map-with_first who [] = refl
-map-with_first who ((other, count) ∷ runs) = elim (who == other) as (λ b. map run_of (cond b ((other, count + 1) ∷ runs) ((who, 1) ∷ (other, count) ∷ runs)) ≡ cond b (record { who = other; count = count + 1 } ∷ map run_of runs) (record { who = who; count = 1 } ∷ run_of (other, count) ∷ map run_of runs)) [ true ↦ refl | false ↦ refl ]
+map-with_first who ((other, count) ∷ runs) = grind (arith, nat_tests)
 
-put_first-with_last : (first last : ℕ) (runs : List Run) → put_first first (with_last runs last) ≡ with_last (put_first first runs) last
+put_first-with_last : (first last : ℕ) (runs : List Run)
+    → put_first first (with_last runs last) ≡ with_last (put_first first runs) last
 put_first-with_last first last [] = grind (arith, nat_tests)
 put_first-with_last first last (run ∷ []) = grind (arith, nat_tests)
-put_first-with_last first last (run ∷ next ∷ runs) =
-    elim (first == run.who) as (λ b.
-    if b then record { who = run.who; count = run.count + 1 } ∷ with_last (next ∷ runs) last else record { who = first; count = 1 } ∷ run ∷ with_last (next ∷ runs) last
-    ≡ with_last (if b then record { who = run.who; count = run.count + 1 } ∷ next ∷ runs else record { who = first; count = 1 } ∷ run ∷ next ∷ runs) last) [ true ↦ refl | false ↦ refl ]
+put_first-with_last first last (run ∷ next ∷ runs) = grind (arith, nat_tests)
 
-runs_of-push : (marks : List ℕ) (who : ℕ) → map run_of (runs_of (marks ++ who ∷ [])) ≡ with_last (map run_of (runs_of marks)) who
+runs_of-push : (marks : List ℕ) (who : ℕ)
+    → map run_of (runs_of (marks ++ who ∷ [])) ≡ with_last (map run_of (runs_of marks)) who
 runs_of-push [] who = refl
 runs_of-push (first ∷ marks) who =
     map-with_first first (runs_of (marks ++ who ∷ [])) ∙ ap (put_first first) (runs_of-push marks who)
     ∙ put_first-with_last first who (map run_of (runs_of marks)) ∙ ap (λ runs. with_last runs who) (sym (map-with_first first (runs_of marks)))
 
-set_at_last : (runs : List Run) (n who : ℕ) (run : Run) → n + 1 ≡ length runs → IsSomeAnd (slice_get runs n) (λ last. last.who ≡ who) → run ≡ get_or runs n run
+set_at_last : (runs : List Run) (n who : ℕ) (run : Run) → n + 1 ≡ length runs
+    → IsSomeAnd (slice_get runs n) (λ last. last.who ≡ who) → run ≡ get_or runs n run
     → slice_set runs n record { who = run.who; count = run.count + 1 } ≡ with_last runs who
 set_at_last [] n who run l h e = absurd (omega arith)
 set_at_last (last ∷ []) zero who run l h e = rw (e, eq-eqb last.who who h) refl
@@ -42,7 +44,8 @@ set_at_last (first ∷ next ∷ runs) zero who run l h e = absurd (omega arith)
 set_at_last (first ∷ next ∷ runs) (suc n) who run l h e = ap (λ rest. first ∷ rest) (set_at_last (next ∷ runs) n who run (omega arith) h e)
 
 -- one more mark in the last run
-pub set_last : (runs : List Run) (who : ℕ) (run : Run) → IsSomeAnd (slice_get runs (length runs - 1)) (λ last. last.who ≡ who) → run ≡ get_or runs (length runs - 1) run
+pub set_last : (runs : List Run) (who : ℕ) (run : Run)
+    → IsSomeAnd (slice_get runs (length runs - 1)) (λ last. last.who ≡ who) → run ≡ get_or runs (length runs - 1) run
     → slice_set runs (length runs - 1) record { who = run.who; count = run.count + 1 } ≡ with_last runs who
 set_last [] who run h e = absurd h
 set_last (first ∷ runs) who run h e = set_at_last (first ∷ runs) (length (first ∷ runs) - 1) who run (omega arith) h e
@@ -67,12 +70,14 @@ count-le (run ∷ runs) zero d h = omega (arith, length-append (replicate run.1 
 count-le (run ∷ runs) (suc k) d h = omega (arith, length-append (replicate run.1 run.0) (written_out runs), count-le runs k d (omega arith))
 
 -- no run has more marks than there are
-pub counts_below : (marks : List ℕ) (most : ℕ) → length marks < most → All (λ run. run.count < most) (map run_of (runs_of marks))
+pub counts_below : (marks : List ℕ) (most : ℕ) → length marks < most
+    → All (λ run. run.count < most) (map run_of (runs_of marks))
 counts_below marks most h k d l =
     let within : k < length (runs_of marks) = omega (arith, length-map (runs_of marks) run_of) in
     rw (get_or-map run_of (runs_of marks) k (d.who, d.count) d within)
     (omega (arith, count-le (runs_of marks) k (d.who, d.count) within, ap length (runs_of-are marks).whole))
 
 -- the runs of one more of the marks
-pub runs_of-take : (marks : List ℕ) (i : ℕ) → i < length marks → with_last (map run_of (runs_of (take i marks))) (get_or marks i 0) ≡ map run_of (runs_of (take (i + 1) marks))
+pub runs_of-take : (marks : List ℕ) (i : ℕ) → i < length marks
+    → with_last (map run_of (runs_of (take i marks))) (get_or marks i 0) ≡ map run_of (runs_of (take (i + 1) marks))
 runs_of-take marks i within = rw (take_more marks i 0 within) (sym (runs_of-push (take i marks) (get_or marks i 0)))

@@ -26,7 +26,8 @@ counts-with_first who ((other, count) ∷ runs) h =
     (λ e. counts-cons (who, 1) ((other, count) ∷ runs) (omega arith) h)
 
 -- a run's count is of no matter to its neighbours
-neighbours-count : (who count other : ℕ) (runs : Runs) → NeighboursDiffer ((who, count) ∷ runs) → NeighboursDiffer ((who, other) ∷ runs)
+neighbours-count : (who count other : ℕ) (runs : Runs) → NeighboursDiffer ((who, count) ∷ runs)
+    → NeighboursDiffer ((who, other) ∷ runs)
 neighbours-count who count other [] h = tt
 neighbours-count who count other (next ∷ runs) h = h
 

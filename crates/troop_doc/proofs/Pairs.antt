@@ -1,23 +1,25 @@
 -- Characters and marks, side by side.
 use Rattle.std.proofs.Common.{◌≡◌, ℕ, List, [], ◌∷◌, length, refl, sym, ap, ◌∙◌, arith}
 use Rattle.std.specs.Prelude.{zip}
-use Rattle.ot_text.specs.Change.{Change, effect, plain}
+use Rattle.ot_text.specs.Change.{Change, base, effect, plain}
 use Rattle.ot_text.specs.Marked.{Marked, marked, text_of, marks_of}
-use Rattle.ot_text.proofs.Effects.{map-effect}
-use Rattle.author_marks.specs.Authorship.{mark_by}
+use Rattle.ot_text.proofs.Effects.{map-effect, length-effect}
+use Rattle.author_marks.specs.Authorship.{Authorship, mark_by}
+use Rattle.troop_doc.specs.Document.{Characters}
+use Rattle.troop_doc.specs.Paired.{ArePaired}
 
-pub text_of-zip : (text marks : List ℕ) → length text ≡ length marks → text_of (zip text marks) ≡ text
+text_of-zip : (text marks : List ℕ) → length text ≡ length marks → text_of (zip text marks) ≡ text
 text_of-zip [] marks h = refl
 text_of-zip (c ∷ text) [] h = absurd (omega arith)
 text_of-zip (c ∷ text) (who ∷ marks) h = ap (λ rest. c ∷ rest) (text_of-zip text marks (omega arith))
 
-pub marks_of-zip : (text marks : List ℕ) → length text ≡ length marks → marks_of (zip text marks) ≡ marks
+marks_of-zip : (text marks : List ℕ) → length text ≡ length marks → marks_of (zip text marks) ≡ marks
 marks_of-zip [] [] h = refl
 marks_of-zip [] (who ∷ marks) h = absurd (omega arith)
 marks_of-zip (c ∷ text) [] h = absurd (omega arith)
 marks_of-zip (c ∷ text) (who ∷ marks) h = ap (λ rest. who ∷ rest) (marks_of-zip text marks (omega arith))
 
-pub length-zip : (text marks : List ℕ) → length text ≡ length marks → length (zip text marks) ≡ length text
+length-zip : (text marks : List ℕ) → length text ≡ length marks → length (zip text marks) ≡ length text
 length-zip [] marks h = refl
 length-zip (c ∷ text) [] h = absurd (omega arith)
 length-zip (c ∷ text) (who ∷ marks) h = omega (arith, length-zip text marks (omega arith))
@@ -26,19 +28,35 @@ zip-of : (m : Marked) → zip (text_of m) (marks_of m) ≡ m
 zip-of [] = refl
 zip-of (pair ∷ m) = ap (λ rest. pair ∷ rest) (zip-of m)
 
--- an operation changes characters and marks each on their own
-pub zip-effect : (who : ℕ) (c : Change) (text marks : List ℕ) → length text ≡ length marks
-    → zip (effect plain c text) (effect (mark_by who) c marks) ≡ effect (marked who) c (zip text marks)
-zip-effect who c text marks h =
-    let m = zip text marks in
-    let made = effect (marked who) c m in
-    let texts : effect plain c text ≡ text_of made = sym (map-effect (λ (pair : ℕ × ℕ). pair.0) (marked who) c m ∙ ap (effect plain c) (text_of-zip text marks h)) in
-    let marks' : effect (mark_by who) c marks ≡ marks_of made = sym (map-effect (λ (pair : ℕ × ℕ). pair.1) (marked who) c m ∙ ap (effect (mark_by who) c) (marks_of-zip text marks h)) in
-    rw (texts, marks') (zip-of made)
+abbrev pub pairs_of : Characters → Authorship → Marked
+pairs_of characters authorship = zip characters.chars authorship.marks
 
-pub zip-cancel : (text marks other_text other_marks : List ℕ) → length text ≡ length marks → length other_text ≡ length other_marks
-    → zip text marks ≡ zip other_text other_marks → (text ≡ other_text) × (marks ≡ other_marks)
-zip-cancel text marks other_text other_marks h k e = (
-  sym (text_of-zip text marks h) ∙ ap text_of e ∙ text_of-zip other_text other_marks k,
-  sym (marks_of-zip text marks h) ∙ ap marks_of e ∙ marks_of-zip other_text other_marks k,
-)
+pub text_of-pairs : {c : Characters} {a : Authorship} {ready : ℕ} → ArePaired c a ready → text_of (pairs_of c a) ≡ c.chars
+text_of-pairs {c} {a} paired = text_of-zip c.chars a.marks paired.even
+
+pub marks_of-pairs : {c : Characters} {a : Authorship} {ready : ℕ} → ArePaired c a ready → marks_of (pairs_of c a) ≡ a.marks
+marks_of-pairs {c} {a} paired = marks_of-zip c.chars a.marks paired.even
+
+pub length-pairs : {c : Characters} {a : Authorship} {ready : ℕ} → ArePaired c a ready → length (pairs_of c a) ≡ length c.chars
+length-pairs {c} {a} paired = length-zip c.chars a.marks paired.even
+
+pub pairs-cancel : {c d : Characters} {a b : Authorship} {ready other : ℕ} → ArePaired c a ready → ArePaired d b other
+    → pairs_of c a ≡ pairs_of d b → (c.chars ≡ d.chars) × (a.marks ≡ b.marks)
+pairs-cancel paired others e =
+    (sym (text_of-pairs paired) ∙ ap text_of e ∙ text_of-pairs others, sym (marks_of-pairs paired) ∙ ap marks_of e ∙ marks_of-pairs others)
+
+-- an operation changes characters and marks each on their own
+pub effect-pairs : {c : Characters} {a : Authorship} {ready : ℕ} → ArePaired c a ready → (who : ℕ) (change : Change)
+    → zip (effect plain change c.chars) (effect (mark_by who) change a.marks) ≡ effect (marked who) change (pairs_of c a)
+effect-pairs {c} {a} paired who change =
+    let made = effect (marked who) change (pairs_of c a) in
+    let chars : text_of made ≡ effect plain change c.chars =
+    map-effect (λ (pair : ℕ × ℕ). pair.0) (marked who) change (pairs_of c a) ∙ ap (effect plain change) (text_of-pairs paired) in
+    let marks : marks_of made ≡ effect (mark_by who) change a.marks =
+    map-effect (λ (pair : ℕ × ℕ). pair.1) (marked who) change (pairs_of c a) ∙ ap (effect (mark_by who) change) (marks_of-pairs paired) in
+    rw (← chars, ← marks) (zip-of made)
+
+pub length-effects : {c : Characters} {a : Authorship} {ready : ℕ} → ArePaired c a ready → (who : ℕ) (change : Change) → base change ≡ length c.chars
+    → length (effect plain change c.chars) ≡ length (effect (mark_by who) change a.marks)
+length-effects {c} {a} paired who change e =
+    length-effect plain change c.chars (sym e) ∙ sym (length-effect (mark_by who) change a.marks (sym (e ∙ paired.even)))

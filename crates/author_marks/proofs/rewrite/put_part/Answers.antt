@@ -1,4 +1,4 @@
-use Rattle.author_marks.proofs.Pieced.{map-mark_by}
+use Rattle.author_marks.proofs.Rewritten.{map-mark_by}
 use Rattle.author_marks.proofs.rewrite.put_part.Goals as goal
 
 pub returns-in-Insert-clause-made : goal.returns-in-Insert-clause-made

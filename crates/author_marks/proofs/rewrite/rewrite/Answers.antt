@@ -1,20 +1,26 @@
-use Rattle.std.proofs.Common.{ap, ◌∙◌, arith}
+use Rattle.std.proofs.Common.{length, ap, ◌∙◌, arith}
 use Rattle.ot_text.specs.Change.{base, target}
-use Rattle.author_marks.proofs.Pieced.{next_fits, next_has_room, next_made}
+use Rattle.ot_text.proofs.Applied.{part_fits, part_applied}
+use Rattle.author_marks.specs.Authorship.{mark_by}
+use Rattle.author_marks.proofs.Rewritten.{part_has_room}
 use Rattle.author_marks.proofs.rewrite.rewrite.Goals as goal
 
 pub put_part-at-requires-clause-within : goal.put_part-at-requires-clause-within
-put_part-at-requires-clause-within c = omega (arith, next_fits c.loop-part.invariant.so_far c.part-item.result c.loop-part-test.true c.part-item.is)
+put_part-at-requires-clause-within c =
+    omega (
+      arith,
+      part_fits c.parts-parts.result.now c.loop-part.part-index c.loop-part.at (length c.args.marks.now) c.part-item.result
+          c.loop-part-test.true c.part-item.is c.loop-part.invariant.so_far.fits,
+    )
 
 pub put_part-at-requires-clause-room : goal.put_part-at-requires-clause-room
 put_part-at-requires-clause-room c =
-    let room = next_has_room c.loop-part.invariant.so_far c.part-item.result c.loop-part-test.true c.part-item.is
-    (ap base c.parts-parts.ensures.norm ∙ c.requires.base) in
+    let room = part_has_room (mark_by c.args.who) c.parts-parts.result.now c.args.marks.now c.loop-part.made.items c.loop-part.part-index c.loop-part.at
+    c.part-item.result c.loop-part-test.true c.part-item.is (ap base c.parts-parts.ensures.norm ∙ c.requires.base) c.loop-part.invariant.so_far in
     omega (arith, room, ap target c.parts-parts.ensures.norm, c.loop-part.made.ok.0)
 
 pub loop-part-preserved : goal.loop-part-preserved
 loop-part-preserved c =
-    rw (c.put_part-at.ensures.place, c.put_part-at.ensures.made) (record {
-      so_far = next_made c.loop-part.invariant.so_far c.part-item.result c.loop-part-test.true c.part-item.is;
-      room = omega arith;
-    })
+    let next = part_applied (mark_by c.args.who) c.parts-parts.result.now c.args.marks.now c.loop-part.made.items c.loop-part.part-index c.loop-part.at
+    c.part-item.result c.loop-part-test.true c.part-item.is c.loop-part.invariant.so_far in
+    rw (c.put_part-at.ensures.place, c.put_part-at.ensures.made) (record { so_far = next; room = omega arith })
