@@ -3,3 +3,4 @@ pub mod Documents
 pub mod Placing
 pub mod Histories
 pub mod Members
+pub mod Telling

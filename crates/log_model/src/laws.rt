@@ -5,9 +5,11 @@ ghost use Rattle.troop_entry.specs.declared.call.Call.{Call};
 ghost use Rattle.troop_entry.specs.declared.call.Call.TheVariants.{Edit};
 ghost use Rattle.troop_entry.specs.declared.reply.Reply.TheVariants.{Placed};
 ghost use Rattle.troop_entry.specs.declared.row.Row.{Row};
-ghost use Rattle.log_model.specs.Log.{join_count, has_join, is_member, changed_by, doc};
+ghost use Rattle.troop_entry.specs.Entries.{deed_of};
+ghost use Rattle.log_model.specs.Log.{join_count, has_join, is_member, changed_by, doc, entries};
 ghost use Rattle.log_model.specs.Answers.{most_joins, answer, after};
 ghost use Rattle.log_model.specs.Legal.{IsLegal, OpFits, HasSeenAtMost};
+ghost use Rattle.log_model.specs.Told.{op_told, doc_told};
 
 /// A legal log stays legal, whatever is asked of it.
 pub fn call_law()
@@ -47,4 +49,11 @@ pub fn seen_law()
 pub fn placed_law()
     ensures { (log : List Row) (who seen : ℕ) (op : Change) → is_member log who ≡ true → seen ≤ length log
         → base op ≡ length (doc (take seen log)) → answer log who (Edit seen op) ≡ Placed (length log) who }
+{}
+
+/// The entries of a legal log tell the operation of each row, and so the document.
+pub fn told_law()
+    ensures operations { (log : List Row) (i : ℕ) (row : Row) → IsLegal log → slice_get log i ≡ Some row
+        → op_told (deed_of row.call row.op) ≡ row.op }
+    ensures document { (log : List Row) → IsLegal log → doc_told [] (entries log) ≡ doc log }
 {}

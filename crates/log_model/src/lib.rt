@@ -5,4 +5,6 @@
 
 mod laws;
 
-pub use laws::{call_law, document_law, fits_law, front_law, numbers_law, placed_law, seen_law};
+pub use laws::{
+    call_law, document_law, fits_law, front_law, numbers_law, placed_law, seen_law, told_law,
+};
