@@ -135,6 +135,13 @@ impl Client {
         Ok(sent)
     }
 
+    /// The number of its performer.
+    pub fn own(&self) -> u32
+        ensures { result ≡ self.now.own }
+    {
+        self.own
+    }
+
     /// The text that it holds, with its marks.
     pub fn doc(&self) -> &Doc
         ensures { result.now.pairs ≡ self.now.held }

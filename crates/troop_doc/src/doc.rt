@@ -1,5 +1,5 @@
 //! A text and its marks.
-ghost use Rattle.std.specs.Prelude.{◌≡◌, ◌≤◌, ◌<◌, ◌^◌, ◌↔◌, [], IsTrue, IsOk, IfOk, OnOk, OnErr, length, map};
+ghost use Rattle.std.specs.Prelude.{◌≡◌, ◌≤◌, ◌<◌, ◌^◌, ◌↔◌, [], IsTrue, IsOk, IsSome, IfOk, OnOk, OnErr, length, map};
 ghost use Rattle.ot_text.specs.Change.{base, target, effect};
 ghost use Rattle.ot_text.specs.Marked.{marked, text_of, marks_of, runs_of};
 ghost use Rattle.author_marks.specs.Runs.{run_of};
@@ -98,7 +98,10 @@ impl Doc {
     /// The block round a place: the largest run of neighbouring lines that aren't blank round the line that the place lies
     /// on, without its last line feed. `None` where that line is blank or the text ends before the place.
     pub fn block_at(&self, place: u64) -> Result<Option<Text>, AllocError>
-        ensures { IfOk result (λ block. block ≡ block_round (text_of self.now.pairs) place) }
+        ensures value { IfOk result (λ block. block ≡ block_round (text_of self.now.pairs) place) }
+
+        // Memory is taken for a block alone.
+        ensures err { OnErr result (IsSome (block_round (text_of self.now.pairs) place)) }
     {
         if place > self.len() {
             return Ok(None);

@@ -1,4 +1,5 @@
-use Rattle.std.proofs.Common.{length, ap, arith}
+use Rattle.std.proofs.Common.{length, refl, ap, arith}
+use Rattle.std.proofs.lemmas.Result.{err_from_is_err_and}
 use Rattle.troop_doc.proofs.Pairs.{length-pairs, text_of-pairs}
 use Rattle.troop_doc.proofs.doc.Doc.block_at.Goals as goal
 
@@ -7,9 +8,14 @@ block_round-requires c =
     let len_is = rw (← c.self.view_is) at c.len.ensures.value in
     omega (arith, len_is, length-pairs c.self.invariant, ap length c.as_slice.ensures.value)
 
-pub returns-in_ok-from_chars-in-Some : goal.returns-in_ok-from_chars-in-Some
-returns-in_ok-from_chars-in-Some c =
+pub returns-in_ok-from_chars-in-Some-clause-value : goal.returns-in_ok-from_chars-in-Some-clause-value
+returns-in_ok-from_chars-in-Some-clause-value c =
     rw (c.in_ok-from_chars-in-Some.ensures, ← c.self.view_is, text_of-pairs c.self.invariant, ← c.as_slice.ensures.value) c.in-Some.ensures
 
-pub returns-in-None : goal.returns-in-None
-returns-in-None c = rw (← c.self.view_is, text_of-pairs c.self.invariant, ← c.as_slice.ensures.value) c.in-None.ensures
+pub returns-in_err-from_chars-in-Some-clause-err : goal.returns-in_err-from_chars-in-Some-clause-err
+returns-in_err-from_chars-in-Some-clause-err c =
+    let p = err_from_is_err_and c.from_residual.result c.from_residual.ensures.1 in
+    rw (p.1, ← c.self.view_is, text_of-pairs c.self.invariant, ← c.as_slice.ensures.value, ← c.in-Some.ensures) refl
+
+pub returns-in-None-clause-value : goal.returns-in-None-clause-value
+returns-in-None-clause-value c = rw (← c.self.view_is, text_of-pairs c.self.invariant, ← c.as_slice.ensures.value) c.in-None.ensures

@@ -1,0 +1,5 @@
+pub mod Causes
+pub mod Keeps
+pub mod Machine
+pub mod Recorded
+pub mod Staged
