@@ -1,5 +1,5 @@
 -- One act more at a stage, and what it keeps then.
-use Rattle.std.proofs.Common.{◌≡◌, ℕ, ◌+◌, ◌≤◌, Bool, true, false, List, [], ◌∷◌, ◌++◌, length, refl, sym, ap, ◌∙◌, arith, if◌then◌else◌, ◌==◌, ◌&&◌, subst, append-nil, add-one, length-append, Option, Some}
+use Rattle.std.proofs.Common.{◌≡◌, ℕ, ◌+◌, ◌≤◌, Bool, true, false, List, [], ◌∷◌, ◌++◌, length, refl, sym, ap, ◌∙◌, arith, if◌then◌else◌, ◌==◌, ◌&&◌, subst, append_assoc, append-nil, add-one, length-append, Option, None, Some}
 use Rattle.std.proofs.lemmas.List.{length-map}
 use Rattle.ot_text.specs.Change.{Change, base}
 use Rattle.ot_text.specs.Marked.{Marked, text_of}
@@ -9,9 +9,14 @@ use Rattle.troop_entry.specs.declared.call.Call.TheVariants as call
 use Rattle.troop_entry.specs.declared.entry.Entry.{Entry}
 use Rattle.troop_entry.specs.declared.entry.Deed.{Deed}
 use Rattle.troop_entry.specs.declared.entry.Deed.TheVariants as deed
-use Rattle.log_model.specs.Log.{changed_by}
+use Rattle.troop_entry.specs.declared.row.Row.{Row}
+use Rattle.log_model.specs.Log.{changed_by, doc, entries}
+use Rattle.log_model.specs.Legal.{IsLegal}
+use Rattle.log_model.proofs.Telling.{told_doc}
+use Rattle.client_state.specs.declared.state.State.{State}
+use Rattle.client_state.specs.declared.state.State.TheVariants.{Synchronized, Awaiting, WithBuffer}
 use Rattle.log_model.specs.Told.{op_told, tells_edit, tells_leave, is_edit_of, is_leave_of, doc_told}
-use Rattle.client_state.specs.Pending.{after_edit, sent_at_edit, sent_at_entry}
+use Rattle.client_state.specs.Pending.{outstanding, after_edit, sent_at_edit, sent_at_entry}
 use Rattle.client_state.specs.Standing.{Standing, StandsOn, pending_on}
 use Rattle.client_state.specs.Steps.{edited, entered}
 use Rattle.client_state.specs.Causes.{CanTake}
@@ -53,34 +58,35 @@ act_stage seat a s client outgoing f h l g room played can keeps fit = record {
 
 -- ---- what every act leaves
 
--- the performer's number stays, and one entry is taken at most
+-- the performer's number and the document at the start stay, and so many entries are taken at most
 record Follows (m n : Machine) (count : ℕ) : Type 0 where
   own : n.own ≡ m.own
+  text : n.text ≡ m.text
   taken_few : taken n ≤ taken m + count
 
 entry_taken : (e : Entry) (m : Machine) (b : Bool) → Follows m (if b then take_own e m else take_other e m) 1
-entry_taken e m true = record { own = refl; taken_few = omega (arith, length-append m.entries (e ∷ [])) }
-entry_taken e m false = record { own = refl; taken_few = omega (arith, length-append m.entries (e ∷ [])) }
+entry_taken e m true = record { own = refl; text = refl; taken_few = omega (arith, length-append m.entries (e ∷ [])) }
+entry_taken e m false = record { own = refl; text = refl; taken_few = omega (arith, length-append m.entries (e ∷ [])) }
 
 next_sent : (calls : List Call) (m : Machine) → Follows m (send_from calls m) 1
-next_sent [] m = record { own = refl; taken_few = omega arith }
-next_sent (c ∷ calls) m = record { own = refl; taken_few = omega arith }
+next_sent [] m = record { own = refl; text = refl; taken_few = omega arith }
+next_sent (c ∷ calls) m = record { own = refl; text = refl; taken_few = omega arith }
 
 act_follows : (a : Act) (m : Machine) → Follows m (after_act a m) 1
-act_follows (act.Typed op) m = record { own = refl; taken_few = omega arith }
-act_follows (act.Eval place) m = record { own = refl; taken_few = omega arith }
-act_follows (act.Reset text) m = record { own = refl; taken_few = omega arith }
+act_follows (act.Typed op) m = record { own = refl; text = refl; taken_few = omega arith }
+act_follows (act.Eval place) m = record { own = refl; text = refl; taken_few = omega arith }
+act_follows (act.Reset text) m = record { own = refl; text = refl; taken_few = omega arith }
 act_follows (act.Take e) m = entry_taken e m (is_edit_of m.own e)
 act_follows act.Next m = next_sent m.outgoing m
-act_follows act.Finish m = record { own = refl; taken_few = omega arith }
-act_follows act.Halt m = record { own = refl; taken_few = omega arith }
+act_follows act.Finish m = record { own = refl; text = refl; taken_few = omega arith }
+act_follows act.Halt m = record { own = refl; text = refl; taken_few = omega arith }
 
 acts_follow : (acts : List Act) (m : Machine) → Follows m (after_acts acts m) (length acts)
-acts_follow [] m = record { own = refl; taken_few = omega arith }
+acts_follow [] m = record { own = refl; text = refl; taken_few = omega arith }
 acts_follow (a ∷ acts) m =
     let first = act_follows a m in
     let rest = acts_follow acts (after_act a m) in
-    record { own = rest.own ∙ first.own; taken_few = omega (arith, first.taken_few, rest.taken_few) }
+    record { own = rest.own ∙ first.own; text = rest.text ∙ first.text; taken_few = omega (arith, first.taken_few, rest.taken_few) }
 
 -- a stage from the start has taken no more entries than acts were placed
 pub few_taken : (s : Staged) (client : Standing) (outgoing : List Call) (f h l g : Bool) (room : ℕ)
@@ -315,3 +321,43 @@ take_stage s old new outgoing e f h l g gone room left is fits same stands stays
     (act_stage 0 (act.Take e) s new (outgoing ++ edit_asked (old.taken + 1) (sent_at_entry old.own old.state e)) f h l gone left is.played can
     (takes (is_edit_of (machine s).own e) (machine s) old new outgoing e f h l g gone refl k same (stands _ k.stands) stays (leaves ∙ ap (λ who. is_leave_of who e) own))
     fit)
+
+-- ---- what was taken
+
+sent_entries : (calls : List Call) (m : Machine) → (send_from calls m).entries ≡ m.entries
+sent_entries [] m = refl
+sent_entries (c ∷ calls) m = refl
+
+taken_entries : (b : Bool) (e : Entry) (m : Machine) → (if b then take_own e m else take_other e m).entries ≡ m.entries ++ e ∷ []
+taken_entries true e m = refl
+taken_entries false e m = refl
+
+-- the entries taken are those of the acts
+pub entries-after_acts : (acts : List Act) (m : Machine) → (after_acts acts m).entries ≡ m.entries ++ takes_of acts
+entries-after_acts [] m = sym (append-nil m.entries)
+entries-after_acts (act.Typed op ∷ acts) m = entries-after_acts acts (type_op op m)
+entries-after_acts (act.Eval place ∷ acts) m = entries-after_acts acts (after_act (act.Eval place) m)
+entries-after_acts (act.Reset text ∷ acts) m = entries-after_acts acts (after_act (act.Reset text) m)
+entries-after_acts (act.Take e ∷ acts) m =
+    entries-after_acts acts (take_entry e m)
+    ∙ ap (λ before. before ++ takes_of acts) (taken_entries (is_edit_of m.own e) e m)
+    ∙ append_assoc m.entries (e ∷ []) (takes_of acts)
+entries-after_acts (act.Next ∷ acts) m =
+    entries-after_acts acts (send_from m.outgoing m) ∙ ap (λ before. before ++ takes_of acts) (sent_entries m.outgoing m)
+entries-after_acts (act.Finish ∷ acts) m = entries-after_acts acts (after_act act.Finish m)
+entries-after_acts (act.Halt ∷ acts) m = entries-after_acts acts (after_act act.Halt m)
+
+nothing_pending : (own : ℕ) (s : State) (m : Marked) → outstanding s ≡ None → pending_on own s m ≡ m
+nothing_pending own Synchronized m e = refl
+nothing_pending own (Awaiting u) m e = absurd (cc)
+nothing_pending own (WithBuffer u v) m e = absurd (cc)
+
+pub held_all : (log : List Row) (own joined : ℕ) (acts : List Act) → IsLegal log → takes_of acts ≡ entries log
+    → outstanding (after_acts acts (machine_from own joined 0 [])).pending ≡ None → held (after_acts acts (machine_from own joined 0 [])) ≡ doc log
+held_all log own joined acts legal all none =
+    let first : Machine = machine_from own joined 0 [] in
+    let last : Machine = after_acts acts first in
+    nothing_pending last.own last.pending (document last) none
+    ∙ ap (λ text. doc_told text last.entries) (acts_follow acts first).text
+    ∙ ap (doc_told []) (entries-after_acts acts first ∙ all)
+    ∙ told_doc log legal

@@ -7,8 +7,12 @@
 mod act;
 mod errors;
 mod history;
+mod laws;
 mod stage;
+#[cfg(test)]
+mod tests;
 
 pub use act::{Act, Next};
 pub use errors::{StageError, TakeError};
+pub use laws::held_law;
 pub use stage::Stage;
