@@ -12,3 +12,6 @@ mod state;
 pub use client::Client;
 pub use errors::{EditError, TakeError};
 pub use state::State;
+
+#[cfg(test)]
+mod tests;

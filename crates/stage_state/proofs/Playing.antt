@@ -22,7 +22,7 @@ use Rattle.client_state.specs.Steps.{edited, entered}
 use Rattle.client_state.specs.Causes.{CanTake}
 use Rattle.stage_state.specs.declared.act.Act.{Act}
 use Rattle.stage_state.specs.declared.act.Act.TheVariants as act
-use Rattle.stage_state.specs.Machine.{Machine, taken, document, held, standing, is_closed, edit_asked, ask, take_own, take_other, next_of, IsSend, send_from, block_held, eval_asked, after_act, after_acts, CanAct, IsPlayed}
+use Rattle.stage_state.specs.Machine.{Machine, taken, document, held, standing, is_closed, edit_asked, ask, type_op, take_own, take_other, take_entry, takes_of, machine_from, next_of, IsSend, send_from, block_held, eval_asked, after_act, after_acts, CanAct, IsPlayed}
 use Rattle.stage_state.specs.Staged.{Staged, acts_of, first_machine, machine, with_act, last_acts}
 use Rattle.stage_state.specs.Keeps.{Keeps, IsStage}
 
