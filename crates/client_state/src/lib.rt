@@ -7,10 +7,12 @@
 
 mod client;
 mod errors;
+mod laws;
 mod state;
 
 pub use client::Client;
 pub use errors::{EditError, TakeError};
+pub use laws::causes_law;
 pub use state::State;
 
 #[cfg(test)]

@@ -14,5 +14,5 @@ mod tests;
 
 pub use act::{Act, Next};
 pub use errors::{StageError, TakeError};
-pub use laws::held_law;
+pub use laws::{causes_law, held_law};
 pub use stage::Stage;

@@ -1,7 +1,7 @@
 //! Each call once, and what no clause says: that calls succeed where memory is found.
 //!
 //! The tests call the stage through functions without clauses, and don't own it, so that little is to be proved in each.
-use crate::{Act, Next, Stage, StageError, TakeError, held_law};
+use crate::{Act, Next, Stage, StageError, TakeError, causes_law, held_law};
 use client_state::State;
 use ot_text::{MAX_LEN, Op, OpBuilder, Text};
 use std::alloc::Global;
@@ -170,6 +170,7 @@ fn block_is_asked(rt: &impl Abort, alloc: Global, stage: &mut Stage) -> Result<(
 #[test]
 fn a_refusal_tells_its_numbers(rt: HostRuntime) -> Result<(), Fail> {
     held_law();
+    causes_law();
     refused(&rt, rt.alloc(), &mut Stage::new(rt.alloc(), 1, 0)?)
 }
 
