@@ -1,5 +1,5 @@
 //! Two clients and one log, by hand; refusals; and that calls succeed where memory is found.
-use crate::{Client, EditError, State, TakeError, causes_law};
+use crate::{Client, EditError, State, TakeError, causes_law, sent_law};
 use ot_text::{MAX_LEN, Op, OpBuilder, Text};
 use std::alloc::{AllocError, Global};
 use std::process::Abort;
@@ -133,6 +133,7 @@ fn refused_entries_and_edits_leave_the_client_as_it_was(rt: HostRuntime) -> Resu
         assert!(rt; matches!(client.state(), State::Synchronized));
     }
     causes_law();
+    sent_law();
     let cause = EditError::BadBase { want: 5, got: 0 };
     assert_eq!(rt; client.edit(&op(alloc, 5, "x", 0)?).err(), Some(cause));
     assert_holds(&rt, &client, &Text::new(alloc), &[], 0)?;
