@@ -12,7 +12,7 @@ mod state;
 
 pub use client::Client;
 pub use errors::{EditError, TakeError};
-pub use laws::{causes_law, sent_law};
+pub use laws::{causes_law, sent_law, stands_law};
 pub use state::State;
 
 #[cfg(test)]

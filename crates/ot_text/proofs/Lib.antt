@@ -11,5 +11,6 @@ pub mod Inserts
 pub mod Kept
 pub mod KeptPlaces
 pub mod Normal
+pub mod Sames
 pub mod Sums
 pub mod Then

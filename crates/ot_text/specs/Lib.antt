@@ -5,4 +5,5 @@ pub mod Gaps
 pub mod Marked
 pub mod Parts
 pub mod Pieces
+pub mod Same
 pub mod Scalars

@@ -7,6 +7,7 @@
 mod block;
 mod call;
 mod entry;
+mod laws;
 mod note;
 mod reply;
 mod row;
@@ -16,6 +17,7 @@ mod tests;
 pub use block::Block;
 pub use call::{Call, Lang, Request};
 pub use entry::{Deed, Entry, entry_of};
+pub use laws::same_call_law;
 pub use note::Note;
 pub use reply::Reply;
 pub use row::Row;

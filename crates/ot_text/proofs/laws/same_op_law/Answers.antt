@@ -1,0 +1,5 @@
+use Rattle.ot_text.proofs.Sames.{op_decides}
+use Rattle.ot_text.proofs.laws.same_op_law.Goals as goal
+
+pub returns : goal.returns
+returns c = op_decides

@@ -1,0 +1,301 @@
+-- The functions say what the relations do.
+use Rattle.std.proofs.Common.{◌≡◌, ◌≢◌, ℕ, Bool, true, false, if◌then◌else◌, not, is_none, nat_eq, Option, None, Some, IsSome, List, length, refl, sym, ap, ◌∙◌, subst, option_map, true≢false, arith, Result, Ok, Err, OnOk, OnErr, IfOk, IfErr}
+use Rattle.std.specs.Prelude.{◌==◌}
+use Rattle.std.proofs.lemmas.Bool.Decides.{nat_tests}
+use Rattle.ot_text.specs.Change.{Change, base}
+use Rattle.troop_entry.specs.declared.entry.Entry.{Entry}
+use Rattle.ot_text.specs.Same.{same_op}
+use Rattle.ot_text.proofs.Sames.{op_decides}
+use Rattle.log_model.specs.Told.{op_told, is_edit_of, block_told}
+use Rattle.log_model.specs.Legal.{OpFits}
+use Rattle.client_state.specs.Pending.{outstanding, other_base}
+use Rattle.client_state.specs.Causes.{CanTake, EntryFits}
+use Rattle.stage_state.specs.declared.act.Act.{Act}
+use Rattle.stage_state.specs.declared.act.Act.TheVariants as act
+use Rattle.stage_state.specs.declared.act.Next.{Next}
+use Rattle.stage_state.specs.declared.act.Next.TheVariants as next
+use Rattle.stage_state.specs.declared.errors.StageError.{StageError}
+use Rattle.stage_state.specs.declared.errors.StageError.TheVariants as fault
+use Rattle.stage_state.specs.declared.errors.TakeError.{TakeError}
+use Rattle.stage_state.specs.declared.errors.TakeError.TheVariants as error
+use Rattle.stage_state.specs.declared.reply.AskRefusal.{AskRefusal}
+use Rattle.stage_state.specs.declared.reply.TakeRefusal.{TakeRefusal}
+use Rattle.stage_state.specs.declared.reply.AskRefusal.TheVariants as ask
+use Rattle.stage_state.specs.declared.reply.TakeRefusal.TheVariants as take
+use Rattle.stage_state.specs.Machine.{Machine, taken, held, standing, is_closed, block_held, next_of, IsSend, CanAct}
+use Rattle.stage_state.specs.Causes.{IsTypeCause, IsEvalCause, IsResetCause, IsTakeCause}
+use Rattle.stage_state.specs.declared.reply.ActReply.{ActReply}
+use Rattle.stage_state.specs.declared.reply.ActReply.TheVariants as reply
+use Rattle.troop_entry.specs.declared.block.Block.{Block}
+use Rattle.stage_state.specs.Staged.{Staged, machine, with_act, after_next}
+use Rattle.stage_state.specs.Replies.{unless, reply_of, played, IsAskReply, IsTakeReply, type_refusal, blank_at, eval_refusal, reset_refusal, is_sent, unfit, entry_refusal, take_refusal, sends, places, ask_error, take_error}
+use Rattle.stage_state.proofs.Playing.{machine-joined}
+use Rattle.stage_state.proofs.Causing.{one_type_cause, one_eval_cause, one_reset_cause, one_take_cause}
+
+equal_from : (m n : ℕ) → (m == n) ≡ true → m ≡ n
+equal_from m n e = grind (arith, nat_tests, e)
+
+differ_from : (m n : ℕ) → (m == n) ≡ false → m ≢ n
+differ_from m n e = grind (arith, nat_tests, e)
+
+-- ---- the error that the function says has its cause
+
+pub type_caused : (m : Machine) (op : Change) → IsTypeCause m op (ask_error (type_refusal m op))
+type_caused m op = by_tests (is_closed m) (base op == length (held m)) refl refl
+  where
+    by_tests : (b c : Bool) → is_closed m ≡ b → (base op == length (held m)) ≡ c → IsTypeCause m op (ask_error (type_refusal m op))
+    by_tests true c p q = rw p p
+    by_tests false true p q = rw (p, q) (p, equal_from (base op) (length (held m)) q)
+    by_tests false false p q = rw (p, q) (p, (refl, refl, differ_from (base op) (length (held m)) q))
+
+pub eval_caused : (m : Machine) (place : ℕ) → IsEvalCause m place (ask_error (eval_refusal m place))
+eval_caused m place = by_tests (is_closed m) (block_held place m) refl refl
+  where
+    by_tests : (b : Bool) (o : Option (List ℕ)) → is_closed m ≡ b → block_held place m ≡ o → IsEvalCause m place (ask_error (eval_refusal m place))
+    by_tests true o p q = rw p p
+    by_tests false None p q = rw (p, q) (p, refl, q)
+    by_tests false (Some text) p q = rw (p, q) (p, rw q refl)
+
+pub reset_caused : (m : Machine) (text : List ℕ) → IsResetCause m text (ask_error (reset_refusal m))
+reset_caused m text = by_test (is_closed m) refl
+  where
+    by_test : (b : Bool) → is_closed m ≡ b → IsResetCause m text (ask_error (reset_refusal m))
+    by_test true p = rw p p
+    by_test false p = rw p p
+
+sent_same : (o u : Option Change) → is_sent o u ≡ true → o ≡ u
+sent_same None None e = refl
+sent_same None (Some u) e = absurd (cc)
+sent_same (Some op) None e = absurd (cc)
+sent_same (Some op) (Some u) e = ap Some ((op_decides op u).0 e)
+
+sent_differs : (o u : Option Change) → is_sent o u ≡ false → o ≢ u
+sent_differs None None e same = true≢false e
+sent_differs None (Some u) e same = cc
+sent_differs (Some op) None e same = cc
+sent_differs (Some op) (Some u) e same = true≢false (sym ((op_decides op u).1 (cc)) ∙ e)
+
+own_caused : (m : Machine) (e : Entry) → m.gone ≡ false → e.at ≡ taken m → is_edit_of m.own e ≡ true → (b : Bool) → is_sent (op_told e.deed) (outstanding m.pending) ≡ b
+    → IsTakeCause m e (take_error (if b then None else Some (take.NotSent e.at)))
+own_caused m e here at own true sent = (here, record { place = at; fits = rw own (sent_same (op_told e.deed) (outstanding m.pending) sent) })
+own_caused m e here at own false sent = (here, (at, refl, own, sent_differs (op_told e.deed) (outstanding m.pending) sent))
+
+other_caused : (m : Machine) (e : Entry) → m.gone ≡ false → e.at ≡ taken m → is_edit_of m.own e ≡ false → (o : Option Change) → op_told e.deed ≡ o
+    → IsTakeCause m e (take_error (unfit o (other_base m.pending (length (held m)))))
+other_caused m e here at other None told = (here, record { place = at; fits = rw (other, told) tt })
+other_caused m e here at other (Some op) told = by_test (base op == other_base m.pending (length (held m))) refl
+  where
+    by_test : (b : Bool) → (base op == other_base m.pending (length (held m))) ≡ b
+        → IsTakeCause m e (take_error (if b then None else Some (take.BadBase (base op) (other_base m.pending (length (held m))))))
+    by_test true same = (here, record { place = at; fits = rw (other, told) (equal_from (base op) (other_base m.pending (length (held m))) same) })
+    by_test false differ = (here, (at, other, ap (option_map base) told, refl, differ_from (base op) (other_base m.pending (length (held m))) differ))
+
+entry_caused : (m : Machine) (e : Entry) → m.gone ≡ false → e.at ≡ taken m → (d : Bool) → is_edit_of m.own e ≡ d → IsTakeCause m e (take_error (entry_refusal d m e))
+entry_caused m e here at true own = own_caused m e here at own (is_sent (op_told e.deed) (outstanding m.pending)) refl
+entry_caused m e here at false other = other_caused m e here at other (op_told e.deed) refl
+
+pub take_caused : (m : Machine) (e : Entry) → IsTakeCause m e (take_error (take_refusal m e))
+take_caused m e = by_tests m.gone (e.at == taken m) refl refl
+  where
+    by_tests : (b c : Bool) → m.gone ≡ b → (e.at == taken m) ≡ c
+        → IsTakeCause m e (take_error (if b then Some take.Gone else (if c then entry_refusal (is_edit_of m.own e) m e else Some (take.BadPlace (taken m) e.at))))
+    by_tests true c p q = p
+    by_tests false true p q = entry_caused m e p (equal_from e.at (taken m) q) (is_edit_of m.own e) refl
+    by_tests false false p q = (p, (refl, refl, λ same. differ_from e.at (taken m) q (sym same)))
+
+-- so a cause is that of the error which the function says
+pub type_cause_is : (m : Machine) (op : Change) (a : StageError) → IsTypeCause m op a → a ≡ ask_error (type_refusal m op)
+type_cause_is m op a h = one_type_cause m op a (ask_error (type_refusal m op)) h (type_caused m op)
+
+pub eval_cause_is : (m : Machine) (place : ℕ) (a : StageError) → IsEvalCause m place a → a ≡ ask_error (eval_refusal m place)
+eval_cause_is m place a h = one_eval_cause m place a (ask_error (eval_refusal m place)) h (eval_caused m place)
+
+pub reset_cause_is : (m : Machine) (text : List ℕ) (a : StageError) → IsResetCause m text a → a ≡ ask_error (reset_refusal m)
+reset_cause_is m text a h = one_reset_cause m text a (ask_error (reset_refusal m)) h (reset_caused m text)
+
+pub take_cause_is : (m : Machine) (e : Entry) (a : TakeError) → IsTakeCause m e a → a ≡ take_error (take_refusal m e)
+take_cause_is m e a h = one_take_cause m e a (take_error (take_refusal m e)) h (take_caused m e)
+
+-- ---- what is placed
+
+no_ask_error : (o : Option AskRefusal) → ask_error o ≡ fault.Memory → o ≡ None
+no_ask_error None e = refl
+no_ask_error (Some ask.Closed) e = absurd (cc)
+no_ask_error (Some (ask.BadBase want got)) e = absurd (cc)
+no_ask_error (Some (ask.Blank place)) e = absurd (cc)
+
+no_take_error : (o : Option TakeRefusal) → take_error o ≡ error.Memory → o ≡ None
+no_take_error None e = refl
+no_take_error (Some take.Gone) e = absurd (cc)
+no_take_error (Some (take.BadPlace want got)) e = absurd (cc)
+no_take_error (Some (take.NotSent at)) e = absurd (cc)
+no_take_error (Some (take.BadBase want got)) e = absurd (cc)
+
+none_is : {R : Type 0} (o : Option R) → is_none o ≡ true → o ≡ None
+none_is None e = refl
+none_is (Some r) e = absurd (cc)
+
+send_is : (n : Next) → sends n ≡ true → IsSend n
+send_is (next.Send num c) e = tt
+send_is next.NotYet e = absurd (cc)
+send_is next.Done e = absurd (cc)
+
+is_send : (n : Next) → IsSend n → sends n ≡ true
+is_send (next.Send num c) s = refl
+is_send next.NotYet s = absurd s
+is_send next.Done s = absurd s
+
+not_true : (b : Bool) → not b ≡ true → b ≡ false
+not_true true e = absurd (cc)
+not_true false e = refl
+
+pub placed_can : (m : Machine) (a : Act) → places m a ≡ true → CanAct m a
+placed_can m (act.Typed op) e = rw (none_is (type_refusal m op) e) at (type_caused m op)
+placed_can m (act.Eval place) e = rw (none_is (eval_refusal m place) e) at (eval_caused m place)
+placed_can m (act.Reset text) e = rw (none_is (reset_refusal m) e) at (reset_caused m text)
+placed_can m (act.Take e) is = rw (none_is (take_refusal m e) is) at (take_caused m e)
+placed_can m act.Next e = send_is (next_of m) e
+placed_can m act.Finish e = not_true m.finishing e
+placed_can m act.Halt e = not_true m.halted e
+
+pub can_placed : (m : Machine) (a : Act) → CanAct m a → places m a ≡ true
+can_placed m (act.Typed op) can = ap is_none (no_ask_error (type_refusal m op) (sym (type_cause_is m op fault.Memory can)))
+can_placed m (act.Eval place) can = ap is_none (no_ask_error (eval_refusal m place) (sym (eval_cause_is m place fault.Memory can)))
+can_placed m (act.Reset text) can = ap is_none (no_ask_error (reset_refusal m) (sym (reset_cause_is m text fault.Memory can)))
+can_placed m (act.Take e) can = ap is_none (no_take_error (take_refusal m e) (sym (take_cause_is m e error.Memory can)))
+can_placed m act.Next can = is_send (next_of m) can
+can_placed m act.Finish can = ap not can
+can_placed m act.Halt can = ap not can
+
+-- ---- what a play answers and leaves
+
+-- a play that gave this: its answer, and the stage then
+pub record Plays (seat : ℕ) (a : Act) (old new : Staged) (answer : ActReply) : Type 0 where
+  pub reply : answer ≡ reply_of (machine old) a
+  pub acts : new ≡ played seat a old
+
+placed_played : (seat : ℕ) (a : Act) (old new : Staged) → places (machine old) a ≡ true → new ≡ with_act seat a old → new ≡ played seat a old
+placed_played seat a old new is e = e ∙ sym (ap (λ (b : Bool). if b then with_act seat a old else old) is)
+
+kept_played : (seat : ℕ) (a : Act) (old new : Staged) → places (machine old) a ≡ false → new ≡ old → new ≡ played seat a old
+kept_played seat a old new is e = e ∙ sym (ap (λ (b : Bool). if b then with_act seat a old else old) is)
+
+-- an ask: by its refusal as a function, what its call gave, and its answer
+ask_plays : (seat : ℕ) (a : Act) (old new : Staged) (f : Result (Unit {0}) AskRefusal → ActReply) (o : Option AskRefusal) (given : Result (Unit {0}) StageError) (r : Result (Unit {0}) AskRefusal)
+    → reply_of (machine old) a ≡ f (unless o tt) → places (machine old) a ≡ is_none o
+    → OnOk given (new ≡ with_act seat a old) → OnOk given (CanAct (machine old) a) → OnErr given (new ≡ old) → IfErr given (λ e. e ≡ ask_error o) → IsAskReply given r
+    → Plays seat a old new (f r)
+ask_plays seat a old new f o (Ok done) r is_reply is_placed ok can err cause h =
+    let yes : places (machine old) a ≡ true = can_placed (machine old) a can in
+    let none : o ≡ None = none_is o (sym is_placed ∙ yes) in
+    record { reply = ap f h ∙ sym (is_reply ∙ ap (λ x. f (unless x tt)) none); acts = placed_played seat a old new yes ok }
+ask_plays seat a old new f None (Err fault.Closed) r is_reply is_placed ok can err cause h = absurd (cc)
+ask_plays seat a old new f None (Err (fault.BadBase want got)) r is_reply is_placed ok can err cause h = absurd (cc)
+ask_plays seat a old new f None (Err (fault.Blank place)) r is_reply is_placed ok can err cause h = absurd (cc)
+ask_plays seat a old new f None (Err fault.Memory) r is_reply is_placed ok can err cause h = absurd h
+ask_plays seat a old new f (Some x) (Err e) r is_reply is_placed ok can err cause h =
+    record { reply = ap f (refused_as x e r cause h) ∙ sym is_reply; acts = kept_played seat a old new is_placed err }
+  where
+    refused_as : (x : AskRefusal) (e : StageError) (r : Result (Unit {0}) AskRefusal) → e ≡ ask_error (Some x) → IsAskReply (Err e) r → r ≡ Err x
+    refused_as ask.Closed fault.Closed r c h = h
+    refused_as ask.Closed (fault.BadBase want got) r c h = absurd (cc)
+    refused_as ask.Closed (fault.Blank place) r c h = absurd (cc)
+    refused_as ask.Closed fault.Memory r c h = absurd h
+    refused_as (ask.BadBase w g) fault.Closed r c h = absurd (cc)
+    refused_as (ask.BadBase w g) (fault.BadBase want got) r c h = let p : want ≡ w = cc in let q : got ≡ g = cc in h ∙ ap (λ n. Err (ask.BadBase n got)) p ∙ ap (λ n. Err (ask.BadBase w n)) q
+    refused_as (ask.BadBase w g) (fault.Blank place) r c h = absurd (cc)
+    refused_as (ask.BadBase w g) fault.Memory r c h = absurd h
+    refused_as (ask.Blank p) fault.Closed r c h = absurd (cc)
+    refused_as (ask.Blank p) (fault.BadBase want got) r c h = absurd (cc)
+    refused_as (ask.Blank p) (fault.Blank place) r c h = let q : place ≡ p = cc in h ∙ ap (λ n. Err (ask.Blank n)) q
+    refused_as (ask.Blank p) fault.Memory r c h = absurd h
+
+if_err_caused : {T E : Type 0} (given : Result T E) (P Q : E → Type 0) → ((e : E) → P e → Q e) → IfErr given P → IfErr given Q
+if_err_caused (Ok x) P Q f h = tt
+if_err_caused (Err e) P Q f h = f e h
+
+pub type_plays : (seat : ℕ) (op : Change) (old new : Staged) (given : Result (Unit {0}) StageError) (r : Result (Unit {0}) AskRefusal)
+    → OnOk given (new ≡ with_act seat (act.Typed op) old) → OnOk given (CanAct (machine old) (act.Typed op)) → OnErr given (new ≡ old) → IfErr given (IsTypeCause (machine old) op) → IsAskReply given r
+    → Plays seat (act.Typed op) old new (reply.Typed r)
+type_plays seat op old new given r ok can err cause h =
+    ask_plays seat (act.Typed op) old new reply.Typed (type_refusal (machine old) op) given r refl refl ok can err (if_err_caused given _ _ (type_cause_is (machine old) op) cause) h
+
+pub eval_plays : (seat place : ℕ) (old new : Staged) (given : Result (Unit {0}) StageError) (r : Result (Unit {0}) AskRefusal)
+    → OnOk given (new ≡ with_act seat (act.Eval place) old) → OnOk given (CanAct (machine old) (act.Eval place)) → OnErr given (new ≡ old) → IfErr given (IsEvalCause (machine old) place) → IsAskReply given r
+    → Plays seat (act.Eval place) old new (reply.Eval r)
+eval_plays seat place old new given r ok can err cause h =
+    ask_plays seat (act.Eval place) old new reply.Eval (eval_refusal (machine old) place) given r refl refl ok can err (if_err_caused given _ _ (eval_cause_is (machine old) place) cause) h
+
+pub reset_plays : (seat : ℕ) (text : List ℕ) (old new : Staged) (given : Result (Unit {0}) StageError) (r : Result (Unit {0}) AskRefusal)
+    → OnOk given (new ≡ with_act seat (act.Reset text) old) → OnOk given (CanAct (machine old) (act.Reset text)) → OnErr given (new ≡ old) → IfErr given (IsResetCause (machine old) text) → IsAskReply given r
+    → Plays seat (act.Reset text) old new (reply.Reset r)
+reset_plays seat text old new given r ok can err cause h =
+    ask_plays seat (act.Reset text) old new reply.Reset (reset_refusal (machine old)) given r refl refl ok can err (if_err_caused given _ _ (reset_cause_is (machine old) text) cause) h
+
+entry_plays : (seat : ℕ) (e : Entry) (old new : Staged) (o : Option TakeRefusal) (given : Result (Option Block) TakeError) (r : Result (Option Block) TakeRefusal)
+    → take_refusal (machine old) e ≡ o → IfOk given (λ b. b ≡ block_told (machine old).joined e)
+    → OnOk given (new ≡ with_act seat (act.Take e) old) → OnOk given (CanAct (machine old) (act.Take e)) → OnErr given (new ≡ old) → IfErr given (λ x. x ≡ take_error o) → IsTakeReply given r
+    → Plays seat (act.Take e) old new (reply.Take r)
+entry_plays seat e old new o (Ok b) r is_o block ok can err cause h =
+    let yes : places (machine old) (act.Take e) ≡ true = can_placed (machine old) (act.Take e) can in
+    let none : take_refusal (machine old) e ≡ None = none_is (take_refusal (machine old) e) yes in
+    record {
+      reply = ap reply.Take (h ∙ ap Ok block) ∙ sym (ap (λ x. reply.Take (unless x (block_told (machine old).joined e))) none);
+      acts = placed_played seat (act.Take e) old new yes ok;
+    }
+entry_plays seat e old new None (Err x) r is_o block ok can err cause h = absurd (no_reply x cause h)
+  where
+    no_reply : (x : TakeError) → x ≡ error.Memory → IsTakeReply (Err x) r → ⊥
+    no_reply error.Gone c h = cc
+    no_reply (error.BadPlace want got) c h = cc
+    no_reply (error.NotSent at) c h = cc
+    no_reply (error.BadBase want got) c h = cc
+    no_reply error.Memory c h = h
+entry_plays seat e old new (Some x) (Err a) r is_o block ok can err cause h =
+    record {
+      reply = ap reply.Take (refused_as x a r cause h) ∙ sym (ap (λ x. reply.Take (unless x (block_told (machine old).joined e))) is_o);
+      acts = kept_played seat (act.Take e) old new (ap is_none is_o) err;
+    }
+  where
+    refused_as : (x : TakeRefusal) (a : TakeError) (r : Result (Option Block) TakeRefusal) → a ≡ take_error (Some x) → IsTakeReply (Err a) r → r ≡ Err x
+    refused_as x error.Memory r c h = absurd h
+    refused_as take.Gone error.Gone r c h = h
+    refused_as take.Gone (error.BadPlace want got) r c h = absurd (cc)
+    refused_as take.Gone (error.NotSent at) r c h = absurd (cc)
+    refused_as take.Gone (error.BadBase want got) r c h = absurd (cc)
+    refused_as (take.BadPlace w g) error.Gone r c h = absurd (cc)
+    refused_as (take.BadPlace w g) (error.BadPlace want got) r c h = let p : want ≡ w = cc in let q : got ≡ g = cc in h ∙ ap (λ n. Err (take.BadPlace n got)) p ∙ ap (λ n. Err (take.BadPlace w n)) q
+    refused_as (take.BadPlace w g) (error.NotSent at) r c h = absurd (cc)
+    refused_as (take.BadPlace w g) (error.BadBase want got) r c h = absurd (cc)
+    refused_as (take.NotSent n) error.Gone r c h = absurd (cc)
+    refused_as (take.NotSent n) (error.BadPlace want got) r c h = absurd (cc)
+    refused_as (take.NotSent n) (error.NotSent at) r c h = let p : at ≡ n = cc in h ∙ ap (λ k. Err (take.NotSent k)) p
+    refused_as (take.NotSent n) (error.BadBase want got) r c h = absurd (cc)
+    refused_as (take.BadBase w g) error.Gone r c h = absurd (cc)
+    refused_as (take.BadBase w g) (error.BadPlace want got) r c h = absurd (cc)
+    refused_as (take.BadBase w g) (error.NotSent at) r c h = absurd (cc)
+    refused_as (take.BadBase w g) (error.BadBase want got) r c h = let p : want ≡ w = cc in let q : got ≡ g = cc in h ∙ ap (λ n. Err (take.BadBase n got)) p ∙ ap (λ n. Err (take.BadBase w n)) q
+
+pub take_plays : (seat : ℕ) (e : Entry) (old new : Staged) (given : Result (Option Block) TakeError) (r : Result (Option Block) TakeRefusal)
+    → IfOk given (λ b. b ≡ block_told old.joined e)
+    → OnOk given (new ≡ with_act seat (act.Take e) old) → OnOk given (CanAct (machine old) (act.Take e)) → OnErr given (new ≡ old) → IfErr given (IsTakeCause (machine old) e) → IsTakeReply given r
+    → Plays seat (act.Take e) old new (reply.Take r)
+take_plays seat e old new given r block ok can err cause h =
+    entry_plays seat e old new (take_refusal (machine old) e) given r refl (subst (λ (n : ℕ). IfOk given (λ b. b ≡ block_told n e)) (sym (machine-joined old)) block) ok can err
+    (if_err_caused given _ _ (take_cause_is (machine old) e) cause) h
+
+pub next_plays : (seat : ℕ) (old new : Staged) (n : Next) → n ≡ next_of (machine old) → new ≡ after_next seat n old → Plays seat act.Next old new (reply.Next n)
+next_plays seat old new n is e = record { reply = ap reply.Next is; acts = e ∙ by_next n is }
+  where
+    by_next : (n : Next) → n ≡ next_of (machine old) → after_next seat n old ≡ played seat act.Next old
+    by_next (next.Send num c) is = sym (ap (λ (x : Next). if sends x then with_act seat act.Next old else old) (sym is))
+    by_next next.NotYet is = sym (ap (λ (x : Next). if sends x then with_act seat act.Next old else old) (sym is))
+    by_next next.Done is = sym (ap (λ (x : Next). if sends x then with_act seat act.Next old else old) (sym is))
+
+pub finish_plays : (seat : ℕ) (old new : Staged) (b : Bool) → (machine old).finishing ≡ b → (b ≡ false → new ≡ with_act seat act.Finish old) → (b ≡ true → new ≡ old) → Plays seat act.Finish old new reply.Finish
+finish_plays seat old new true is first again = record { reply = refl; acts = kept_played seat act.Finish old new (ap not is) (again refl) }
+finish_plays seat old new false is first again = record { reply = refl; acts = placed_played seat act.Finish old new (ap not is) (first refl) }
+
+pub halt_plays : (seat : ℕ) (old new : Staged) (b : Bool) → (machine old).halted ≡ b → (b ≡ false → new ≡ with_act seat act.Halt old) → (b ≡ true → new ≡ old) → Plays seat act.Halt old new reply.Halt
+halt_plays seat old new true is first again = record { reply = refl; acts = kept_played seat act.Halt old new (ap not is) (again refl) }
+halt_plays seat old new false is first again = record { reply = refl; acts = placed_played seat act.Halt old new (ap not is) (first refl) }
