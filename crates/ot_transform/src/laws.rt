@@ -1,10 +1,10 @@
 //! Laws of transformation, chains and composition: each is the contract of an empty function.
-ghost use Rattle.std.specs.Prelude.{◌≡◌, ◌↔◌, ◌++◌, List, ℕ, Some, length, map};
-ghost use Rattle.ot_text.specs.Change.{Change, New, base, target, inserted, effect, filled, image};
+ghost use Rattle.std.specs.Prelude.{◌≡◌, ◌↔◌, ◌++◌, List, ℕ, Some, IsTrue, length, map};
+ghost use Rattle.ot_text.specs.Change.{Change, Old, New, base, target, inserted, effect, filled, image, ins, kept};
 ghost use Rattle.ot_transform.specs.Chain.{through, IsRun, run_end};
 ghost use Rattle.ot_transform.specs.Composition.{comp};
-ghost use Rattle.ot_transform.specs.Merge.{merge};
-ghost use Rattle.ot_transform.specs.Transform.{left, right, left_image, right_image};
+ghost use Rattle.ot_transform.specs.Merge.{each_from, each_gap, merge};
+ghost use Rattle.ot_transform.specs.Transform.{left, right, gap_place, image_at, ins_places, kept_place, left_image, right_image};
 
 /// Whichever of two operations comes first, the other one moved through it makes the merge of both.
 pub fn merge_law<X>()
@@ -33,6 +33,16 @@ pub fn transform_gaps_law()
     ensures left_image { (a b : Change) → base a ≡ base b → image (left a b) ≡ left_image a b }
     ensures right_base { (a b : Change) → base a ≡ base b → base (right b a) ≡ target a }
     ensures right_image { (a b : Change) → base a ≡ base b → image (right b a) ≡ right_image b a }
+{}
+
+/// An operation's image, gap by gap; and the places that `gap_place`, `ins_places` and `kept_place` name in it.
+pub fn places_law()
+    ensures image { (c : Change) → image c ≡ each_gap (image_at c) (base c) }
+    ensures gap_place { (c : Change) (i : ℕ) → gap_place c i ≡ length (each_from (image_at c) 0 i) }
+    ensures ins_places { (c : Change) (i : ℕ)
+        → map (filled New (image c)) (ins_places c i) ≡ map Some (map New (ins c i)) }
+    ensures kept_place { (c : Change) (i : ℕ) → IsTrue (kept c i)
+        → filled New (image c) (kept_place c i) ≡ Some (Old i) }
 {}
 
 /// The composition has the first one's base, and the second one's image with each place replaced by

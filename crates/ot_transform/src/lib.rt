@@ -22,7 +22,7 @@ pub use chain::{left_of, left_through};
 pub use composite::compose;
 pub use laws::{
     chain_law, composed_image_law, composition_law, diamond_law, lengths_law, merge_law,
-    transform_gaps_law,
+    places_law, transform_gaps_law,
 };
 pub use pair::transform;
 
