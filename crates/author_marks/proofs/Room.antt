@@ -2,7 +2,8 @@
 use Rattle.std.proofs.Common.{◌≡◌, ℕ, ◌+◌, ◌≤◌, arith}
 use Rattle.ot_text.specs.Change.{Change, base, target, inserted}
 use Rattle.ot_text.specs.Ready.{IsReady}
-use Rattle.ot_text.proofs.Payable.{insert_count-le-inserted, target-le}
+use Rattle.ot_text.proofs.Payable.{insert_count-le-inserted}
+use Rattle.ot_text.proofs.Then.{target-le}
 use Rattle.author_marks.specs.Authorship.{room_of}
 
 pub has_room : (c : Change) (capacity length : ℕ) → length + inserted c ≤ capacity → IsReady c (room_of capacity length)

@@ -1,10 +1,10 @@
--- What an operation puts in is room enough for it.
-use Rattle.std.proofs.Common.{◌≡◌, ◌≢◌, ℕ, ◌+◌, ◌≤◌, List, [], ◌∷◌, length, refl, ap, arith}
+-- An operation puts in no more texts than characters.
+use Rattle.std.proofs.Common.{◌≡◌, ◌≢◌, ℕ, ◌≤◌, List, [], ◌∷◌, length, refl, ap, arith}
 use Rattle.std.proofs.lemmas.List.Sums.{sum_by-cons}
 use Rattle.std.specs.Prelude.{count_by, if◌then◌else◌}
 use Rattle.ot_text.specs.declared.part.Part.{Part}
 use Rattle.ot_text.specs.declared.part.Part.TheVariants.{Retain, Insert, Delete}
-use Rattle.ot_text.specs.Change.{Change, Fate, Gone, Kept, base, target, inserted, left_by, inserted_behind}
+use Rattle.ot_text.specs.Change.{Change, inserted}
 use Rattle.ot_text.specs.Ends.{is_insert}
 use Rattle.ot_text.specs.Parts.{parts_of, IsProper, IsNormal, inserted_by, inserted_of}
 use Rattle.ot_text.specs.Ready.{insert_count}
@@ -34,11 +34,3 @@ texts_le (part ∷ parts) h =
 pub insert_count-le-inserted : (c : Change) → insert_count c ≤ inserted c
 insert_count-le-inserted c =
     omega (arith, texts_le (parts_of c) (normal-parts_of c), inserted-norm (parts_of c), ap inserted (norm-parts_of c))
-
-left_by-le : (fates : List Fate) → left_by fates ≤ length fates + inserted_behind fates
-left_by-le [] = omega arith
-left_by-le (Gone ∷ fates) = omega (arith, left_by-le fates)
-left_by-le (Kept t ∷ fates) = omega (arith, left_by-le fates)
-
-pub target-le : (c : Change) → target c ≤ base c + inserted c
-target-le c = omega (arith, left_by-le c.places)

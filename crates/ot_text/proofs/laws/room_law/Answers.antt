@@ -1,4 +1,5 @@
-use Rattle.ot_text.proofs.Payable.{insert_count-le-inserted, target-le}
+use Rattle.ot_text.proofs.Payable.{insert_count-le-inserted}
+use Rattle.ot_text.proofs.Then.{target-le}
 use Rattle.ot_text.proofs.laws.room_law.Goals as goal
 
 pub returns-clause-texts : goal.returns-clause-texts
