@@ -5,6 +5,7 @@ pub mod Gaps
 pub mod GoingOn
 pub mod Lengths
 pub mod Merge
+pub mod Places
 pub mod Rests
 pub mod SoFar
 pub mod SoFarComposed

@@ -47,6 +47,10 @@ abbrev pub gap_place : Change → ℕ → ℕ
 gap_place c zero = 0
 gap_place c (suc i) = gap_place c i + length (ins c i) + (if kept c i then 1 else 0)
 
+-- what stands in the target at gap i: the characters that are put in there, and then place i, if it is kept
+abbrev pub image_at : Change → ℕ → List Item
+image_at c i = map New (ins c i) ++ (if kept c i then Old i ∷ [] else [])
+
 -- the places that the text of gap i has in the target
 abbrev pub ins_places : Change → ℕ → List Item
 ins_places c i = places_from (gap_place c i) (length (ins c i))

@@ -22,6 +22,17 @@ pub fn left_of(alloc: Global, a: &Op, b: &Op) -> Result<Op, AllocError>
     Ok(left.finish())
 }
 
+/// The operation moved through one other, as `left_of` answers it; want of memory where a text of that length can't be.
+pub fn try_left_of(alloc: Global, a: &Op, b: &Op) -> Result<Op, AllocError>
+    requires { base a.now ≡ base b.now }
+    ensures { IfOk result (λ op. op ≡ left a.now b.now) }
+{
+    if b.target() + a.inserted() > MAX_LEN {
+        return Err(AllocError);
+    }
+    left_of(alloc, a, b)
+}
+
 /// The operation moved through a run of others, one after another.
 pub fn left_through(alloc: Global, a: &Op, bs: &[Op]) -> Result<Op, AllocError>
     requires run { IsRun (base a.now) bs.now }

@@ -18,13 +18,13 @@ mod rest;
 mod step;
 mod walk;
 
-pub use chain::{left_of, left_through};
+pub use chain::{left_of, left_through, try_left_of};
 pub use composite::compose;
 pub use laws::{
     chain_law, composed_image_law, composition_law, diamond_law, lengths_law, merge_law,
-    transform_gaps_law,
+    places_law, transform_gaps_law,
 };
-pub use pair::transform;
+pub use pair::{transform, try_transform};
 
 #[cfg(test)]
 mod plain;

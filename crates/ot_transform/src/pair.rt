@@ -24,3 +24,16 @@ pub fn transform(alloc: Global, a: &Op, b: &Op) -> Result<(Op, Op), AllocError>
     }
     Ok((left.finish(), right.finish()))
 }
+
+/// Each of the operations moved through the other, as `transform` answers them; want of memory where a text of that length
+/// can't be.
+pub fn try_transform(alloc: Global, a: &Op, b: &Op) -> Result<(Op, Op), AllocError>
+    requires { base a.now ≡ base b.now }
+    ensures left { IfOk result (λ both. both.0 ≡ left a.now b.now) }
+    ensures right { IfOk result (λ both. both.1 ≡ right b.now a.now) }
+{
+    if a.base() + a.inserted() + b.inserted() > MAX_LEN {
+        return Err(AllocError);
+    }
+    transform(alloc, a, b)
+}

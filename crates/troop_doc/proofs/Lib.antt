@@ -4,4 +4,5 @@ pub mod LargestRun
 pub mod LineLists
 pub mod LinePlaces
 pub mod LinesNumbered
+pub mod OneBlock
 pub mod Pairs
