@@ -1,3 +1,4 @@
 pub mod Rewritten
-pub mod RunsOf
+pub mod Room
 pub mod RunsMade
+pub mod RunsOf

@@ -1,7 +1,7 @@
 //! The performers' numbers of the characters of a text.
 //!
-//! A contract sees a `Marks` as the list of the numbers, one for each character, and the number
-//! `ready`, the longest list that the next operation may make without memory.
+//! A contract sees a `Marks` as the list of the numbers, one for each character, and
+//! `ready`, the room for what the next operation puts in without memory.
 #![tactic(auto)]
 
 mod laws;

@@ -1,7 +1,8 @@
 //! The list of marks, one for each character.
 ghost use Rattle.std.specs.Prelude.{◌≡◌, ◌≤◌, ◌<◌, ◌^◌, ◌↔◌, [], IsTrue, IsOk, IfOk, OnOk, OnErr, length, map};
-ghost use Rattle.ot_text.specs.Change.{base, target, effect};
+ghost use Rattle.ot_text.specs.Change.{base, effect};
 ghost use Rattle.ot_text.specs.Marked.{runs_of};
+ghost use Rattle.ot_text.specs.Ready.{IsReady, IsAsLarge};
 ghost use Rattle.author_marks.specs.Authorship.{mark_by};
 ghost use Rattle.author_marks.specs.Runs.{run_of};
 
@@ -22,12 +23,12 @@ pub struct Marks {
 }
 
 impl Model for Marks {
-    ghost use Rattle.std.specs.Prelude.{vec_capacity};
-    ghost use Rattle.author_marks.specs.Authorship.{Authorship};
+    ghost use Rattle.std.specs.Prelude.{length, vec_capacity};
+    ghost use Rattle.author_marks.specs.Authorship.{Authorship, room_of};
 
     ghost Value = { Authorship };
 
-    ghost view = { λ m. record { marks = m.marks.items; ready = vec_capacity m.spare } };
+    ghost view = { λ m. record { marks = m.marks.items; ready = room_of (vec_capacity m.spare) (length m.marks.items) } };
 }
 
 impl Marks {
@@ -52,22 +53,23 @@ impl Marks {
     /// Makes the marks ready for the operation, which `apply` then takes without memory. At `Err` they are as they were.
     pub fn reserve_for(&mut self, op: &Op) -> Result<(), AllocError>
         requires { base op.now ≡ length self.old.marks }
-        ensures ok { OnOk result (target op.now ≤ self.new.ready) }
+        ensures ok { OnOk result (IsReady op.now self.new.ready) }
         ensures marks { self.new.marks ≡ self.old.marks }
 
         // What was made ready stays so, and is made ready again without memory.
-        ensures ready { self.old.ready ≤ self.new.ready }
-        ensures succeeds { target op.now ≤ self.old.ready → IsOk result }
+        ensures ready { IsAsLarge self.new.ready self.old.ready }
+        ensures succeeds { IsReady op.now self.old.ready → IsOk result }
         ensures err { OnErr result (self.new ≡ self.old) }
     {
         self.spare.clear();
-        self.spare.reserve(op.target() as usize)
+        self.spare
+            .reserve(self.marks.len() + op.inserted() as usize)
     }
 
     /// Changes the marks as the operation by this performer changes the text: its new characters are marked with its number.
     pub fn apply(&mut self, op: &Op, who: u32)
         requires base { base op.now ≡ length self.old.marks }
-        requires ready { target op.now ≤ self.old.ready }
+        requires ready { IsReady op.now self.old.ready }
         ensures { self.new.marks ≡ effect (mark_by who) op.now self.old.marks }
     {
         rewrite(&mut self.spare, &self.marks, op, who);

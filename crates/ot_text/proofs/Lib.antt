@@ -11,6 +11,7 @@ pub mod Inserts
 pub mod Kept
 pub mod KeptPlaces
 pub mod Normal
+pub mod Payable
 pub mod Sames
 pub mod Sums
 pub mod Then

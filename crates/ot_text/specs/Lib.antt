@@ -5,5 +5,6 @@ pub mod Gaps
 pub mod Marked
 pub mod Parts
 pub mod Pieces
+pub mod Ready
 pub mod Same
 pub mod Scalars

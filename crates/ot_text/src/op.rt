@@ -3,6 +3,7 @@ ghost use Rattle.std.specs.Prelude.{◌≡◌, ◌≤◌, ◌↔◌, IsTrue, IfO
 ghost use Rattle.ot_text.specs.Change.{base, target, inserted, nothing, retain_then};
 ghost use Rattle.ot_text.specs.Parts.{norm, parts_of, IsNormal, IsNoneOrOneRetain};
 ghost use Rattle.ot_text.specs.Bounds.{IsShort};
+ghost use Rattle.ot_text.specs.Ready.{insert_count};
 
 use crate::Part;
 use crate::parts::{clone_parts, same_parts};
@@ -57,6 +58,20 @@ impl Op {
         ensures short { result ≤ MAX_LEN }
     {
         self.inserted
+    }
+
+    /// How many texts it puts in.
+    pub fn insert_count(&self) -> u64
+        ensures value { result ≡ insert_count self.now }
+        ensures short { result ≤ MAX_LEN }
+    {
+        let mut count = 0;
+        for part in self.parts() {
+            if part.is_insert() {
+                count += 1;
+            }
+        }
+        count
     }
 
     /// Whether its parts are none or one retain, so that it leaves every text as it is.

@@ -1,9 +1,9 @@
 -- An operation on its way through a run of others.
-use Rattle.std.proofs.Common.{◌≡◌, ℕ, ◌+◌, ◌<◌, ◌≤◌, List, [], ◌∷◌, ◌++◌, length, get_or, drop, refl, sym, ap, ◌∙◌}
+use Rattle.std.proofs.Common.{◌≡◌, ℕ, ◌+◌, ◌<◌, ◌≤◌, ◌↔◌, List, [], ◌∷◌, ◌++◌, length, get_or, drop, refl, sym, ap, ◌∙◌}
 use Rattle.std.proofs.lemmas.List.{drop_more}
 use Rattle.ot_text.specs.declared.op.TheConstants.{MAX_LEN}
 use Rattle.ot_text.specs.Change.{Change, base, target, inserted}
-use Rattle.ot_transform.specs.Chain.{through, IsRun, HasRoom}
+use Rattle.ot_transform.specs.Chain.{through, IsRun, run_end, HasRoom}
 use Rattle.ot_transform.specs.Transform.{left}
 use Rattle.ot_transform.proofs.Lengths.{inserted-left}
 use Rattle.ot_transform.proofs.Merge.{base-left}
@@ -47,3 +47,20 @@ inserted-through a [] run = refl
 inserted-through a (b ∷ bs) run =
     let same : base a ≡ base b = sym run.0 in
     inserted-through (left a b) bs (rw (base-left a b same) run.1) ∙ inserted-left a b same
+
+pub base-through : (a : Change) (bs : List Change) → IsRun (base a) bs → base (through a bs) ≡ run_end (base a) bs
+base-through a [] run = refl
+base-through a (b ∷ bs) run =
+    let moved : base (left a b) ≡ target b = base-left a b (sym run.0) in
+    base-through (left a b) bs (rw moved run.1) ∙ ap (λ n. run_end n bs) moved
+
+-- a run in two parts
+pub IsRun-append : (n : ℕ) (bs cs : List Change) → IsRun n (bs ++ cs) ↔ (IsRun n bs × IsRun (run_end n bs) cs)
+IsRun-append n [] cs = (λ run. (tt, run), λ runs. runs.1)
+IsRun-append n (b ∷ bs) cs =
+    let rest = IsRun-append (target b) bs cs in
+    (λ run. let runs = rest.0 run.1 in ((run.0, runs.0), runs.1), λ runs. (runs.0.0, rest.1 (runs.0.1, runs.1)))
+
+pub run_end-append : (n : ℕ) (bs cs : List Change) → run_end n (bs ++ cs) ≡ run_end (run_end n bs) cs
+run_end-append n [] cs = refl
+run_end-append n (b ∷ bs) cs = run_end-append (target b) bs cs

@@ -14,6 +14,11 @@ abbrev pub IsRun : ℕ → List Change → Type 0
 IsRun n [] = Unit {0}
 IsRun n (b ∷ bs) = (base b ≡ n) × IsRun (target b) bs
 
+-- the length of the text that a run on a text of length n leads to: the last target, and n where the run is empty
+abbrev pub run_end : ℕ → List Change → ℕ
+run_end n [] = n
+run_end n (b ∷ bs) = run_end (target b) bs
+
 -- each target has room for so many more characters
 abbrev pub HasRoom : ℕ → List Change → Type 0
 HasRoom more [] = Unit {0}

@@ -1,7 +1,7 @@
 //! Laws of transformation, chains and composition: each is the contract of an empty function.
-ghost use Rattle.std.specs.Prelude.{◌≡◌, ◌++◌, List, ℕ, Some, length, map};
+ghost use Rattle.std.specs.Prelude.{◌≡◌, ◌↔◌, ◌++◌, List, ℕ, Some, length, map};
 ghost use Rattle.ot_text.specs.Change.{Change, New, base, target, inserted, effect, filled, image};
-ghost use Rattle.ot_transform.specs.Chain.{through, IsRun};
+ghost use Rattle.ot_transform.specs.Chain.{through, IsRun, run_end};
 ghost use Rattle.ot_transform.specs.Composition.{comp};
 ghost use Rattle.ot_transform.specs.Merge.{merge};
 ghost use Rattle.ot_transform.specs.Transform.{left, right, left_image, right_image};
@@ -43,13 +43,19 @@ pub fn composed_image_law()
         → map Some (image (comp a b)) ≡ map (filled New (image a)) (image b) }
 {}
 
-/// Two runs one behind the other are moved through as one run, and an operation moved through a run
-/// puts in as many characters as before.
+/// Two runs one behind the other, the second on the text that the first leads to, are one run and are moved through as
+/// one. An operation moved through a run puts in as many characters as before, and applies to the text that the run leads to.
 pub fn chain_law()
     ensures append { (a : Change) (bs cs : List Change)
         → through a (bs ++ cs) ≡ through (through a bs) cs }
     ensures inserted { (a : Change) (bs : List Change) → IsRun (base a) bs
         → inserted (through a bs) ≡ inserted a }
+    ensures base { (a : Change) (bs : List Change) → IsRun (base a) bs
+        → base (through a bs) ≡ run_end (base a) bs }
+    ensures two_runs { (n : ℕ) (bs cs : List Change)
+        → IsRun n (bs ++ cs) ↔ (IsRun n bs × IsRun (run_end n bs) cs) }
+    ensures two_ends { (n : ℕ) (bs cs : List Change)
+        → run_end n (bs ++ cs) ≡ run_end (run_end n bs) cs }
 {}
 
 /// A moved operation puts in as many characters as before, both ways round the text has one length,

@@ -2,6 +2,7 @@
 use Rattle.std.proofs.Common.{◌≡◌, ℕ, List, [], ◌∷◌, length, refl, sym, ap, ◌∙◌, arith}
 use Rattle.std.specs.Prelude.{zip}
 use Rattle.ot_text.specs.Change.{Change, base, effect, plain}
+use Rattle.ot_text.specs.Ready.{Room}
 use Rattle.ot_text.specs.Marked.{Marked, marked, text_of, marks_of}
 use Rattle.ot_text.proofs.Effects.{map-effect, length-effect}
 use Rattle.author_marks.specs.Authorship.{Authorship, mark_by}
@@ -31,22 +32,22 @@ zip-of (pair ∷ m) = ap (λ rest. pair ∷ rest) (zip-of m)
 abbrev pub pairs_of : Characters → Authorship → Marked
 pairs_of characters authorship = zip characters.chars authorship.marks
 
-pub text_of-pairs : {c : Characters} {a : Authorship} {ready : ℕ} → ArePaired c a ready → text_of (pairs_of c a) ≡ c.chars
+pub text_of-pairs : {c : Characters} {a : Authorship} {ready : Room} → ArePaired c a ready → text_of (pairs_of c a) ≡ c.chars
 text_of-pairs {c} {a} paired = text_of-zip c.chars a.marks paired.even
 
-pub marks_of-pairs : {c : Characters} {a : Authorship} {ready : ℕ} → ArePaired c a ready → marks_of (pairs_of c a) ≡ a.marks
+pub marks_of-pairs : {c : Characters} {a : Authorship} {ready : Room} → ArePaired c a ready → marks_of (pairs_of c a) ≡ a.marks
 marks_of-pairs {c} {a} paired = marks_of-zip c.chars a.marks paired.even
 
-pub length-pairs : {c : Characters} {a : Authorship} {ready : ℕ} → ArePaired c a ready → length (pairs_of c a) ≡ length c.chars
+pub length-pairs : {c : Characters} {a : Authorship} {ready : Room} → ArePaired c a ready → length (pairs_of c a) ≡ length c.chars
 length-pairs {c} {a} paired = length-zip c.chars a.marks paired.even
 
-pub pairs-cancel : {c d : Characters} {a b : Authorship} {ready other : ℕ} → ArePaired c a ready → ArePaired d b other
+pub pairs-cancel : {c d : Characters} {a b : Authorship} {ready other : Room} → ArePaired c a ready → ArePaired d b other
     → pairs_of c a ≡ pairs_of d b → (c.chars ≡ d.chars) × (a.marks ≡ b.marks)
 pairs-cancel paired others e =
     (sym (text_of-pairs paired) ∙ ap text_of e ∙ text_of-pairs others, sym (marks_of-pairs paired) ∙ ap marks_of e ∙ marks_of-pairs others)
 
 -- an operation changes characters and marks each on their own
-pub effect-pairs : {c : Characters} {a : Authorship} {ready : ℕ} → ArePaired c a ready → (who : ℕ) (change : Change)
+pub effect-pairs : {c : Characters} {a : Authorship} {ready : Room} → ArePaired c a ready → (who : ℕ) (change : Change)
     → zip (effect plain change c.chars) (effect (mark_by who) change a.marks) ≡ effect (marked who) change (pairs_of c a)
 effect-pairs {c} {a} paired who change =
     let made = effect (marked who) change (pairs_of c a) in
@@ -56,7 +57,7 @@ effect-pairs {c} {a} paired who change =
     map-effect (λ (pair : ℕ × ℕ). pair.1) (marked who) change (pairs_of c a) ∙ ap (effect (mark_by who) change) (marks_of-pairs paired) in
     rw (← chars, ← marks) (zip-of made)
 
-pub length-effects : {c : Characters} {a : Authorship} {ready : ℕ} → ArePaired c a ready → (who : ℕ) (change : Change) → base change ≡ length c.chars
+pub length-effects : {c : Characters} {a : Authorship} {ready : Room} → ArePaired c a ready → (who : ℕ) (change : Change) → base change ≡ length c.chars
     → length (effect plain change c.chars) ≡ length (effect (mark_by who) change a.marks)
 length-effects {c} {a} paired who change e =
     length-effect plain change c.chars (sym e) ∙ sym (length-effect (mark_by who) change a.marks (sym (e ∙ paired.even)))

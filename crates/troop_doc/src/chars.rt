@@ -3,6 +3,7 @@ ghost use Rattle.std.specs.Prelude.{◌≡◌, ◌+◌, ◌≤◌, ◌<◌, ◌^
 ghost use Rattle.ot_text.specs.Change.{base, target, effect, plain};
 ghost use Rattle.ot_text.specs.Parts.{passed_by, left_by_part};
 ghost use Rattle.ot_text.specs.Pieces.{piece_of};
+ghost use Rattle.ot_text.specs.Ready.{IsReady, IsAsLarge};
 
 use ot_text::{Op, Part, Text};
 use std::alloc::{AllocError, Global};
@@ -18,12 +19,13 @@ pub(crate) struct Chars {
 }
 
 impl Model for Chars {
-    ghost use Rattle.std.specs.Prelude.{vec_capacity};
+    ghost use Rattle.std.specs.Prelude.{length, vec_capacity};
+    ghost use Rattle.author_marks.specs.Authorship.{room_of};
     ghost use Rattle.troop_doc.specs.Document.{Characters};
 
     ghost Value = { Characters };
 
-    ghost view = { λ c. record { chars = c.chars.items; ready = vec_capacity c.spare } };
+    ghost view = { λ c. record { chars = c.chars.items; ready = room_of (vec_capacity c.spare) (length c.chars.items) } };
 }
 
 impl Chars {
@@ -54,23 +56,24 @@ impl Chars {
         *self.chars.allocator()
     }
 
-    // Makes room for the text that the operation makes.
+    // Makes room for what the operation puts in.
     pub(crate) fn reserve_for(&mut self, op: &Op) -> Result<(), AllocError>
         requires { base op.now ≡ length self.old.chars }
-        ensures ok { OnOk result (target op.now ≤ self.new.ready) }
+        ensures ok { OnOk result (IsReady op.now self.new.ready) }
         ensures chars { self.new.chars ≡ self.old.chars }
-        ensures ready { self.old.ready ≤ self.new.ready }
-        ensures succeeds { target op.now ≤ self.old.ready → IsOk result }
+        ensures ready { IsAsLarge self.new.ready self.old.ready }
+        ensures succeeds { IsReady op.now self.old.ready → IsOk result }
         ensures err { OnErr result (self.new ≡ self.old) }
     {
         self.spare.clear();
-        self.spare.reserve(op.target() as usize)
+        self.spare
+            .reserve(self.chars.len() + op.inserted() as usize)
     }
 
     // Changes the characters by the operation.
     pub(crate) fn apply(&mut self, op: &Op)
         requires base { base op.now ≡ length self.old.chars }
-        requires ready { target op.now ≤ self.old.ready }
+        requires ready { IsReady op.now self.old.ready }
         ensures { self.new.chars ≡ effect plain op.now self.old.chars }
     {
         rewrite(&mut self.spare, &self.chars, op);

@@ -1,7 +1,8 @@
 //! A text and its marks.
 ghost use Rattle.std.specs.Prelude.{◌≡◌, ◌≤◌, ◌<◌, ◌^◌, ◌↔◌, [], IsTrue, IsOk, IsSome, IfOk, OnOk, OnErr, length, map};
-ghost use Rattle.ot_text.specs.Change.{base, target, effect};
+ghost use Rattle.ot_text.specs.Change.{base, effect};
 ghost use Rattle.ot_text.specs.Marked.{marked, text_of, marks_of, runs_of};
+ghost use Rattle.ot_text.specs.Ready.{IsReady, IsAsLarge};
 ghost use Rattle.author_marks.specs.Runs.{run_of};
 ghost use Rattle.troop_doc.specs.Blocks.{block_round};
 
@@ -17,8 +18,9 @@ use std::marker::Model;
 pub struct Doc {
     chars: Chars,
     marks: Marks,
-    // Both are ready for a text of this length.
-    ready: u64,
+    // So many characters, in so many runs, may be put into both without memory.
+    characters: u64,
+    runs: u64,
 }
 
 impl Model for Doc {
@@ -28,9 +30,9 @@ impl Model for Doc {
 
     ghost Value = { Document };
 
-    ghost view = { λ d. record { pairs = zip d.chars.chars d.marks.marks; ready = d.ready } };
+    ghost view = { λ d. record { pairs = zip d.chars.chars d.marks.marks; ready = record { characters = d.characters; runs = d.runs } } };
 
-    ghost invariant = { λ d. ArePaired d.chars d.marks d.ready };
+    ghost invariant = { λ d. ArePaired d.chars d.marks (record { characters = d.characters; runs = d.runs }) };
 }
 
 impl Doc {
@@ -41,7 +43,8 @@ impl Doc {
         Doc {
             chars: Chars::new(alloc),
             marks: Marks::new(alloc),
-            ready: 0,
+            characters: 0,
+            runs: 0,
         }
     }
 
@@ -56,29 +59,31 @@ impl Doc {
     /// Makes the document ready for the operation, which `apply` then takes without memory. At `Err` it is as it was.
     pub fn reserve_for(&mut self, op: &Op) -> Result<(), AllocError>
         requires { base op.now ≡ length self.old.pairs }
-        ensures ok { OnOk result (target op.now ≤ self.new.ready) }
+        ensures ok { OnOk result (IsReady op.now self.new.ready) }
         ensures pairs { self.new.pairs ≡ self.old.pairs }
 
         // What was made ready stays so, and is made ready again without memory.
-        ensures ready { self.old.ready ≤ self.new.ready }
-        ensures succeeds { target op.now ≤ self.old.ready → IsOk result }
+        ensures ready { IsAsLarge self.new.ready self.old.ready }
+        ensures succeeds { IsReady op.now self.old.ready → IsOk result }
         ensures err { OnErr result (self.new ≡ self.old) }
     {
         self.chars.reserve_for(op)?;
         self.marks.reserve_for(op)?;
-        self.ready = self.ready.max(op.target());
+        self.characters = self.characters.max(op.inserted());
+        self.runs = self.runs.max(1 + 2 * op.insert_count());
         Ok(())
     }
 
     /// Changes the document by the operation of this performer, to whom its new characters then belong.
     pub fn apply(&mut self, op: &Op, who: u32)
         requires base { base op.now ≡ length self.old.pairs }
-        requires ready { target op.now ≤ self.old.ready }
+        requires ready { IsReady op.now self.old.ready }
         ensures { self.new.pairs ≡ effect (marked who) op.now self.old.pairs }
     {
         self.chars.apply(op);
         self.marks.apply(op, who);
-        self.ready = 0;
+        self.characters = 0;
+        self.runs = 0;
     }
 
     /// Its characters.
@@ -121,7 +126,8 @@ impl Doc {
         Ok(Doc {
             chars,
             marks,
-            ready: 0,
+            characters: 0,
+            runs: 0,
         })
     }
 

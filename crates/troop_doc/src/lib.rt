@@ -1,7 +1,7 @@
 //! The document that the performers write: each character with the number of who put it in.
 //!
 //! A contract sees a `Doc` as the list of pairs of a character and a performer's number, and the
-//! number `ready`, the longest list that the next operation may make without memory.
+//! room `ready` for what the next operation puts in without memory.
 #![tactic(auto)]
 
 mod block;

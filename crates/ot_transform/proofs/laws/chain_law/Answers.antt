@@ -1,5 +1,11 @@
-use Rattle.ot_transform.proofs.Through.{through-append, inserted-through}
+use Rattle.ot_transform.proofs.Through.{through-append, inserted-through, base-through, IsRun-append, run_end-append}
 use Rattle.ot_transform.proofs.laws.chain_law.Goals as goal
 
 pub returns : goal.returns
-returns c = record { append = through-append; inserted = inserted-through }
+returns c = record {
+  append = through-append;
+  inserted = inserted-through;
+  base = base-through;
+  two_runs = IsRun-append;
+  two_ends = run_end-append;
+}
