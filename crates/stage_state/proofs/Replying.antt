@@ -6,7 +6,7 @@ use Rattle.ot_text.specs.Change.{Change, base}
 use Rattle.troop_entry.specs.declared.entry.Entry.{Entry}
 use Rattle.ot_text.specs.Same.{same_op}
 use Rattle.ot_text.proofs.Sames.{op_decides}
-use Rattle.log_model.specs.Told.{op_told, is_edit_of, block_told}
+use Rattle.troop_entry.specs.Told.{op_told, is_edit_of, block_told}
 use Rattle.log_model.specs.Legal.{OpFits}
 use Rattle.client_state.specs.Pending.{outstanding, other_base}
 use Rattle.client_state.specs.Causes.{CanTake, EntryFits}

@@ -4,7 +4,7 @@ use Rattle.ot_text.specs.Change.{Change, base}
 use Rattle.troop_entry.specs.declared.block.Block.{Block}
 use Rattle.troop_entry.specs.declared.entry.Entry.{Entry}
 use Rattle.ot_text.specs.Same.{same_op}
-use Rattle.log_model.specs.Told.{op_told, is_edit_of, block_told}
+use Rattle.troop_entry.specs.Told.{op_told, is_edit_of, block_told}
 use Rattle.client_state.specs.Pending.{outstanding, other_base}
 use Rattle.stage_state.specs.declared.act.Act.{Act}
 use Rattle.stage_state.specs.declared.act.Act.TheVariants as act

@@ -23,9 +23,25 @@ fn a_copy_of_a_join_has_its_name_and_language(rt: HostRuntime) -> Result<(), Fai
 }
 
 #[test]
+fn a_call_equals_its_copy_and_not_one_that_has_seen_more(rt: HostRuntime) -> Result<(), Fail> {
+    let call = Call::Edit {
+        seen: 3,
+        op: removing(rt.alloc(), 1)?,
+    };
+    let later = Call::Edit {
+        seen: 4,
+        op: removing(rt.alloc(), 1)?,
+    };
+    assert!(rt; call.same(&call.try_clone()?));
+    assert!(rt; !call.same(&later));
+    Ok(())
+}
+
+#[test]
 fn an_entry_tells_the_served_operation(rt: HostRuntime) -> Result<(), Fail> {
     let row = Row {
         who: 2,
+        num: 9,
         seat: 7,
         call: Call::Edit {
             seen: 3,
@@ -33,7 +49,9 @@ fn an_entry_tells_the_served_operation(rt: HostRuntime) -> Result<(), Fail> {
         },
         op: Some(removing(rt.alloc(), 4)?),
     };
-    let entry = entry_of(rt.alloc(), 5, &row.try_clone()?)?.try_clone()?;
+    let row = row.try_clone()?;
+    assert_eq!(rt; (row.num, row.seat), (9, 7));
+    let entry = entry_of(rt.alloc(), 5, &row)?.try_clone()?;
     assert_eq!(rt; (entry.at, entry.who, entry.seen), (5, 2, 3));
     let Deed::Edit(op) = entry.deed else {
         return Err("an edit".into());
@@ -46,6 +64,7 @@ fn an_entry_tells_the_served_operation(rt: HostRuntime) -> Result<(), Fail> {
 fn a_leave_has_seen_its_own_place(rt: HostRuntime) -> Result<(), Fail> {
     let row = Row {
         who: 2,
+        num: 0,
         seat: 0,
         call: Call::Leave,
         op: None,
