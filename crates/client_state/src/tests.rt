@@ -1,5 +1,5 @@
-//! Two clients and one log, by hand; refusals; and that calls succeed where memory is found.
-use crate::{Client, EditError, State, TakeError, causes_law, sent_law};
+//! Two clients and one log, by hand; a start behind entries; refusals; and that calls succeed where memory is found.
+use crate::{Client, EditError, State, TakeError, causes_law, sent_law, stands_law};
 use ot_text::{MAX_LEN, Op, OpBuilder, Text};
 use std::alloc::{AllocError, Global};
 use std::process::Abort;
@@ -45,6 +45,20 @@ fn take(client: &mut Client, entry: &Entry) -> Result<Option<Op>, TakeError> {
         return Err(TakeError::Memory);
     }
     client.take(entry)
+}
+
+// The same as `edit` and `take`, in their two steps.
+fn edit_checked(client: &mut Client, op: &Op) -> Result<Option<Op>, EditError> {
+    client.check_edit(op)?;
+    Ok(client.edit_checked(op)?)
+}
+
+fn take_checked(client: &mut Client, entry: &Entry) -> Result<Option<Op>, TakeError> {
+    if client.taken() == u64::MAX {
+        return Err(TakeError::Memory);
+    }
+    client.check(entry)?;
+    Ok(client.take_checked(entry)?)
 }
 
 // Whether this operation, and no other, is to be sent.
@@ -134,6 +148,7 @@ fn refused_entries_and_edits_leave_the_client_as_it_was(rt: HostRuntime) -> Resu
     }
     causes_law();
     sent_law();
+    stands_law();
     let cause = EditError::BadBase { want: 5, got: 0 };
     assert_eq!(rt; client.edit(&op(alloc, 5, "x", 0)?).err(), Some(cause));
     assert_holds(&rt, &client, &Text::new(alloc), &[], 0)?;
@@ -153,4 +168,25 @@ fn an_own_reset_confirms_no_edit(rt: HostRuntime) -> Result<(), Fail> {
     };
     assert!(rt; sent.same(&op(alloc, 0, "a", 3)?));
     assert_holds(&rt, &client, &Text::of(alloc, "anew")?, &[(1, 4)], 1)
+}
+
+#[test]
+fn a_client_starts_behind_entries_with_their_document(rt: HostRuntime) -> Result<(), Fail> {
+    let alloc = rt.alloc();
+    let mut before = Client::new(alloc, 1);
+    before.edit(&op(alloc, 0, "hi", 0)?)?;
+    let doc = before.doc().try_clone()?;
+    starts_behind(&rt, alloc, &mut Client::start_at(alloc, 2, 3, doc))
+}
+
+fn starts_behind(rt: &impl Abort, alloc: Global, client: &mut Client) -> Result<(), Fail> {
+    assert_eq!(rt; client.own(), 2);
+    let early = entry(0, 1, 0, Deed::Leave);
+    let cause = TakeError::BadPlace { want: 3, got: 0 };
+    assert_eq!(rt; take(client, &early).err(), Some(cause));
+    let typed = op(alloc, 2, "!", 0)?;
+    assert!(rt; sends(&edit_checked(client, &typed)?, &typed));
+    assert!(rt; client.state().is_awaiting());
+    assert!(rt; take_checked(client, &entry(3, 2, 3, Deed::Edit(typed)))?.is_none());
+    assert_holds(rt, client, &Text::of(alloc, "hi!")?, &[(1, 2), (2, 1)], 4)
 }

@@ -1,5 +1,5 @@
 -- What a stage answers to an act, and whether it places it, as functions.
-use Rattle.std.specs.Prelude.{◌≡◌, ℕ, Bool, true, false, if◌then◌else◌, ◌==◌, not, is_none, Option, None, Some, Result, Ok, Err, List, length}
+use Rattle.std.specs.Prelude.{◌≡◌, ℕ, Bool, true, false, if◌then◌else◌, ◌==◌, ◌-◌, ◌&&◌, not, is_none, Option, None, Some, Result, Ok, Err, List, length}
 use Rattle.ot_text.specs.Change.{Change, base}
 use Rattle.troop_entry.specs.declared.block.Block.{Block}
 use Rattle.troop_entry.specs.declared.entry.Entry.{Entry}
@@ -25,19 +25,22 @@ use Rattle.stage_state.specs.Staged.{Staged, machine, with_act}
 
 -- ---- why an act is refused, if it is
 
+-- the refusal of a local edit
 abbrev pub type_refusal : Machine → Change → Option AskRefusal
 type_refusal m op =
     if is_closed m then Some ask.Closed
     else (if base op == length (held m) then None else Some (ask.BadBase (base op) (length (held m))))
 
--- the refusal where there is no block
+-- the refusal at this place, if there is no block
 abbrev pub blank_at : ℕ → Option (List ℕ) → Option AskRefusal
 blank_at place None = Some (ask.Blank place)
 blank_at place (Some text) = None
 
+-- the refusal of an evaluation
 abbrev pub eval_refusal : Machine → ℕ → Option AskRefusal
 eval_refusal m place = if is_closed m then Some ask.Closed else blank_at place (block_held place m)
 
+-- the refusal of a reset
 abbrev pub reset_refusal : Machine → Option AskRefusal
 reset_refusal m = if is_closed m then Some ask.Closed else None
 
@@ -58,6 +61,7 @@ abbrev pub entry_refusal : Bool → Machine → Entry → Option TakeRefusal
 entry_refusal true m e = if is_sent (op_told e.deed) (outstanding m.pending) then None else Some (take.NotSent e.at)
 entry_refusal false m e = unfit (op_told e.deed) (other_base m.pending (length (held m)))
 
+-- the refusal of an entry: the performer is gone, the entry is at another place, or doesn't fit
 abbrev pub take_refusal : Machine → Entry → Option TakeRefusal
 take_refusal m e =
     if m.gone then Some take.Gone
@@ -70,7 +74,7 @@ abbrev pub unless : {R T : Type 0} → Option R → T → Result T R
 unless None done = Ok done
 unless (Some refusal) done = Err refusal
 
--- what one thread is answered
+-- the answer to an act
 abbrev pub reply_of : Machine → Act → ActReply
 reply_of m (act.Typed op) = reply.Typed (unless (type_refusal m op) tt)
 reply_of m (act.Eval place) = reply.Eval (unless (eval_refusal m place) tt)
@@ -80,6 +84,7 @@ reply_of m act.Next = reply.Next (next_of m)
 reply_of m act.Finish = reply.Finish
 reply_of m act.Halt = reply.Halt
 
+-- whether something goes out
 abbrev pub sends : Next → Bool
 sends (next.Send num c) = true
 sends next.NotYet = false
@@ -101,12 +106,14 @@ played seat a s = if places (machine s) a then with_act seat a s else s
 
 -- ---- the error that a refusal is, and want of memory where there is none
 
+-- the error of an ask
 abbrev pub ask_error : Option AskRefusal → StageError
 ask_error None = fault.Memory
 ask_error (Some ask.Closed) = fault.Closed
 ask_error (Some (ask.BadBase want got)) = fault.BadBase want got
 ask_error (Some (ask.Blank place)) = fault.Blank place
 
+-- the error of an entry
 abbrev pub take_error : Option TakeRefusal → TakeError
 take_error None = error.Memory
 take_error (Some take.Gone) = error.Gone
@@ -123,6 +130,10 @@ is_free (act.Take e) = false
 is_free act.Next = false
 is_free act.Finish = true
 is_free act.Halt = true
+
+-- the room that a play leaves, at least: it uses up that for one act only where it places an act that may take memory
+abbrev pub spare_left : Act → Machine → ℕ → ℕ
+spare_left a m spare = if places m a && not (is_free a) then spare - 1 else spare
 
 -- the answer to an ask whose call gave this, where it gave no want of memory
 abbrev pub IsAskReply : Result (Unit {0}) StageError → Result (Unit {0}) AskRefusal → Type 0

@@ -1,7 +1,10 @@
 //! Each call once, and what no clause says: that calls succeed where memory is found.
 //!
 //! The tests call the stage through functions without clauses, and don't own it, so that little is to be proved in each.
-use crate::{Act, Next, Stage, StageError, TakeError, causes_law, held_law};
+use crate::{
+    Act, ActReply, AskRefusal, Next, Stage, StageError, TakeError, causes_law, held_law,
+    machine_law, replies_law,
+};
 use client_state::State;
 use ot_text::{MAX_LEN, Op, OpBuilder, Text};
 use std::alloc::Global;
@@ -66,7 +69,7 @@ fn next(stage: &mut Stage) -> Result<Next, Fail> {
 /// The call that goes out.
 fn sent(stage: &mut Stage) -> Result<Call, Fail> {
     match next(stage)? {
-        Next::Send(call) => Ok(call),
+        Next::Send { call, .. } => Ok(call),
         Next::NotYet | Next::Done => Err("a call".into()),
     }
 }
@@ -127,8 +130,16 @@ fn the_leave_goes_out_once(rt: HostRuntime) -> Result<(), Fail> {
 
 fn leave_goes_out(rt: &impl Abort, stage: &mut Stage) -> Result<(), Fail> {
     stage.finish();
-    assert_eq!(rt; eval(stage, 0), Some(StageError::Closed));
-    assert!(rt; matches!(stage.upcoming()?, Next::Send(Call::Leave)));
+    assert!(rt; stage.is_closed() && eval(stage, 0) == Some(StageError::Closed));
+    assert!(rt;
+        matches!(
+            stage.upcoming()?,
+            Next::Send {
+                num: 1,
+                call: Call::Leave
+            }
+        )
+    );
     assert!(rt; matches!(sent(stage)?, Call::Leave));
     assert!(rt; stage.leave_sent() && matches!(next(stage)?, Next::Done));
     taken(stage, 0, Deed::Leave)?;
@@ -171,6 +182,8 @@ fn block_is_asked(rt: &impl Abort, alloc: Global, stage: &mut Stage) -> Result<(
 fn a_refusal_tells_its_numbers(rt: HostRuntime) -> Result<(), Fail> {
     held_law();
     causes_law();
+    replies_law();
+    machine_law();
     refused(&rt, rt.alloc(), &mut Stage::new(rt.alloc(), 1, 0)?)
 }
 
@@ -184,5 +197,62 @@ fn refused(rt: &impl Abort, alloc: Global, stage: &mut Stage) -> Result<(), Fail
     assert_eq!(rt; refused, Some(TakeError::BadPlace { want: 0, got: 3 }));
     taken(stage, 0, Deed::Leave)?;
     assert_eq!(rt; take(stage, 1, 2, Deed::Leave).err(), Some(TakeError::Gone));
+    Ok(())
+}
+
+#[test]
+fn a_stage_starts_behind_its_join(rt: HostRuntime) -> Result<(), Fail> {
+    let alloc = rt.alloc();
+    let mut before = Stage::new(alloc, 1, 0)?;
+    edit(&mut before, alloc, 0, "hi")?;
+    let doc = before.doc().try_clone()?;
+    starts_behind(&rt, alloc, &mut Stage::start_at(alloc, 2, 2, doc)?)
+}
+
+fn starts_behind(rt: &impl Abort, alloc: Global, stage: &mut Stage) -> Result<(), Fail> {
+    assert_eq!(rt;
+        (stage.start(), stage.taken(), stage.start_doc().len()),
+        (3, 3, 2)
+    );
+    let refused = take(stage, 0, 1, Deed::Leave).err();
+    assert_eq!(rt; refused, Some(TakeError::BadPlace { want: 3, got: 0 }));
+    edit(stage, alloc, 2, "!")?;
+    let Next::Send { num: 1, call } = next(stage)? else {
+        return Err("the first call".into());
+    };
+    let Call::Edit { seen: 3, op } = call else {
+        return Err("the edit".into());
+    };
+    assert!(rt; matches!(take(stage, 3, 2, Deed::Edit(op)), Ok(None)));
+    stage.finish();
+    assert!(rt;
+        matches!(
+            next(stage)?,
+            Next::Send {
+                num: 2,
+                call: Call::Leave
+            }
+        )
+    );
+    assert_eq!(rt; (stage.taken(), stage.doc().len()), (4, 3));
+    Ok(())
+}
+
+#[test]
+fn a_play_is_answered_as_its_call(rt: HostRuntime) -> Result<(), Fail> {
+    play_is_answered(&rt, rt.alloc(), &mut Stage::new(rt.alloc(), 1, 0)?)
+}
+
+fn play_is_answered(rt: &impl Abort, alloc: Global, stage: &mut Stage) -> Result<(), Fail> {
+    let act = Act::Typed(typing(alloc, 0, "a")?);
+    assert!(rt; matches!(stage.play(4, &act)?, ActReply::Typed(Ok(()))));
+    let far = Act::Typed(typing(alloc, 5, "a")?);
+    let refusal = AskRefusal::BadBase { want: 5, got: 1 };
+    let ActReply::Typed(Err(refused)) = stage.play(5, &far)? else {
+        return Err("a refusal".into());
+    };
+    assert_eq!(rt; refused, refusal);
+    let halted = stage.play(6, &Act::Halt)?;
+    assert!(rt; matches!(halted, ActReply::Halt) && stage.acts().len() == 2);
     Ok(())
 }

@@ -1,6 +1,6 @@
 -- The functions say what the relations do.
 use Rattle.std.proofs.Common.{◌≡◌, ◌≢◌, ℕ, Bool, true, false, if◌then◌else◌, not, is_none, nat_eq, Option, None, Some, IsSome, List, length, refl, sym, ap, ◌∙◌, subst, option_map, true≢false, arith, Result, Ok, Err, OnOk, OnErr, IfOk, IfErr}
-use Rattle.std.specs.Prelude.{◌==◌}
+use Rattle.std.specs.Prelude.{◌==◌, ◌&&◌, ◌-◌, ◌≤◌}
 use Rattle.std.proofs.lemmas.Bool.Decides.{nat_tests}
 use Rattle.ot_text.specs.Change.{Change, base}
 use Rattle.troop_entry.specs.declared.entry.Entry.{Entry}
@@ -27,10 +27,10 @@ use Rattle.stage_state.specs.Causes.{IsTypeCause, IsEvalCause, IsResetCause, IsT
 use Rattle.stage_state.specs.declared.reply.ActReply.{ActReply}
 use Rattle.stage_state.specs.declared.reply.ActReply.TheVariants as reply
 use Rattle.troop_entry.specs.declared.block.Block.{Block}
-use Rattle.stage_state.specs.Staged.{Staged, machine, with_act, after_next}
-use Rattle.stage_state.specs.Replies.{unless, reply_of, played, IsAskReply, IsTakeReply, type_refusal, blank_at, eval_refusal, reset_refusal, is_sent, unfit, entry_refusal, take_refusal, sends, places, ask_error, take_error}
-use Rattle.stage_state.proofs.Playing.{machine-joined}
-use Rattle.stage_state.proofs.Causing.{one_type_cause, one_eval_cause, one_reset_cause, one_take_cause}
+use Rattle.stage_state.specs.Staged.{Staged, machine, with_act, after_next, IsQuiet}
+use Rattle.stage_state.specs.Replies.{unless, reply_of, played, is_free, spare_left, IsAskReply, IsTakeReply, type_refusal, blank_at, eval_refusal, reset_refusal, is_sent, unfit, entry_refusal, take_refusal, sends, places, ask_error, take_error}
+use Rattle.stage_state.proofs.Machine.{machine-joined}
+use Rattle.stage_state.proofs.Causes.{one_type_cause, one_eval_cause, one_reset_cause, one_take_cause}
 
 equal_from : (m n : ℕ) → (m == n) ≡ true → m ≡ n
 equal_from m n e = grind (arith, nat_tests, e)
@@ -167,6 +167,16 @@ can_placed m act.Next can = is_send (next_of m) can
 can_placed m act.Finish can = ap not can
 can_placed m act.Halt can = ap not can
 
+-- memory is wanted for an entry only where it would be placed
+pub take_wanting : (m : Machine) (e : Entry) (given : Result (Option Block) TakeError) → IfErr given (IsTakeCause m e) → given ≡ Err error.Memory
+    → places m (act.Take e) ≡ true
+take_wanting m e given cause is =
+    can_placed m (act.Take e) (subst (λ (r : Result (Option Block) TakeError). IfErr r (IsTakeCause m e)) is cause)
+
+pub on_err : {T E P : Type 0} (r : Result T E) → P → OnErr r P
+on_err (Ok x) p = tt
+on_err (Err e) p = p
+
 -- ---- what a play answers and leaves
 
 -- a play that gave this: its answer, and the stage then
@@ -299,3 +309,27 @@ finish_plays seat old new false is first again = record { reply = refl; acts = p
 pub halt_plays : (seat : ℕ) (old new : Staged) (b : Bool) → (machine old).halted ≡ b → (b ≡ false → new ≡ with_act seat act.Halt old) → (b ≡ true → new ≡ old) → Plays seat act.Halt old new reply.Halt
 halt_plays seat old new true is first again = record { reply = refl; acts = kept_played seat act.Halt old new (ap not is) (again refl) }
 halt_plays seat old new false is first again = record { reply = refl; acts = placed_played seat act.Halt old new (ap not is) (first refl) }
+
+-- ---- the room that a play leaves
+
+left_within : (b : Bool) (o n : ℕ) → o ≤ n → (if b then o - 1 else o) ≤ n
+left_within true o n more = omega arith
+left_within false o n more = more
+
+pub kept_spare : (a : Act) (m : Machine) (o n : ℕ) → o ≤ n → spare_left a m o ≤ n
+kept_spare a m o n more = left_within (places m a && not (is_free a)) o n more
+
+placed_spare : (a : Act) (m : Machine) (o n : ℕ) → is_free a ≡ false → CanAct m a → n ≡ o - 1 → spare_left a m o ≤ n
+placed_spare a m o n paid can used =
+    let yes : (places m a && not (is_free a)) ≡ true = ap (λ b. b && not (is_free a)) (can_placed m a can) ∙ ap not paid in
+    subst (λ (b : Bool). (if b then o - 1 else o) ≤ n) (sym yes) (omega (arith, used))
+
+pub call_spare : {T E : Type 0} (a : Act) (m : Machine) (o n : ℕ) (given : Result T E) → is_free a ≡ false → OnOk given (CanAct m a) → OnOk given (n ≡ o - 1)
+    → OnErr given (o ≤ n) → spare_left a m o ≤ n
+call_spare a m o n (Ok x) paid can used more = placed_spare a m o n paid can used
+call_spare a m o n (Err e) paid can used more = kept_spare a m o n more
+
+pub next_spare : (m : Machine) (o n : ℕ) (x : Next) → x ≡ next_of m → (IsSend x → n ≡ o - 1) → (IsQuiet x → n ≡ o) → spare_left act.Next m o ≤ n
+next_spare m o n (next.Send num c) is used same = placed_spare act.Next m o n refl (subst (λ (x : Next). IsSend x) is tt) (used tt)
+next_spare m o n next.NotYet is used same = kept_spare act.Next m o n (omega (arith, same tt))
+next_spare m o n next.Done is used same = kept_spare act.Next m o n (omega (arith, same tt))

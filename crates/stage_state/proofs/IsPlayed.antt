@@ -1,0 +1,54 @@
+-- Played lists: one act more, a front, and what is pending then.
+use Rattle.std.proofs.Common.{◌≡◌, ℕ, Bool, true, false, if◌then◌else◌, Option, None, Some, List, [], ◌∷◌, ◌++◌, length, refl, sym, subst}
+use Rattle.ot_text.specs.Marked.{Marked}
+use Rattle.troop_entry.specs.declared.call.Call.{Call}
+use Rattle.troop_entry.specs.declared.entry.Entry.{Entry}
+use Rattle.troop_entry.specs.Told.{op_told, is_edit_of}
+use Rattle.client_state.specs.Pending.{after_own, after_told}
+use Rattle.client_state.specs.Standing.{FitsOn}
+use Rattle.client_state.specs.Causes.{EntryFits}
+use Rattle.client_state.proofs.FitsOn.{typed_bases, told_bases, own_bases, fits_front}
+use Rattle.stage_state.specs.declared.act.Act.{Act}
+use Rattle.stage_state.specs.declared.act.Act.TheVariants as act
+use Rattle.stage_state.specs.Machine.{Machine, machine_from, document, standing, take_own, take_other, send_from, after_act, after_acts, CanAct, IsPlayed}
+use Rattle.stage_state.proofs.Machine.{doc_told-one_more}
+
+pub played-one_more : (acts : List Act) (a : Act) (m : Machine) → IsPlayed m acts → CanAct (after_acts acts m) a → IsPlayed m (acts ++ a ∷ [])
+played-one_more [] a m played can = (can, tt)
+played-one_more (b ∷ acts) a m played can = (played.0, played-one_more acts a (after_act b m) played.1 can)
+
+pub played_front : (xs ys : List Act) (m : Machine) → IsPlayed m (xs ++ ys) → IsPlayed m xs × IsPlayed (after_acts xs m) ys
+played_front [] ys m played = (tt, played)
+played_front (a ∷ xs) ys m played = let rest = played_front xs ys (after_act a m) played.1 in ((played.0, rest.0), rest.1)
+
+-- what is pending fits the document
+abbrev pub PendingFits : Machine → Type 0
+PendingFits m = FitsOn m.pending (length (document m))
+
+taken_fits : (b : Bool) (m : Machine) (e : Entry) → EntryFits b (standing m) e → PendingFits m → PendingFits (if b then take_own e m else take_other e m)
+taken_fits true m e fits f =
+    subst (λ (d : Marked). FitsOn (after_own m.pending) (length d)) (sym (doc_told-one_more m.text m.entries e))
+    (own_bases e.who m.pending (op_told e.deed) (document m) fits f)
+taken_fits false m e fits f =
+    subst (λ (d : Marked). FitsOn (after_told m.pending (op_told e.deed)) (length d)) (sym (doc_told-one_more m.text m.entries e))
+    (told_bases e.who m.pending (op_told e.deed) (document m) f (fits_front m.own m.pending (op_told e.deed) (document m) f fits))
+
+sent_fits : (calls : List Call) (m : Machine) → PendingFits m → PendingFits (send_from calls m)
+sent_fits [] m f = f
+sent_fits (c ∷ calls) m f = f
+
+act_fits : (a : Act) (m : Machine) → CanAct m a → PendingFits m → PendingFits (after_act a m)
+act_fits (act.Typed op) m can f = typed_bases m.own m.pending op (document m) can.1 f
+act_fits (act.Eval place) m can f = f
+act_fits (act.Reset text) m can f = f
+act_fits (act.Take e) m can f = taken_fits (is_edit_of m.own e) m e can.1.fits f
+act_fits act.Next m can f = sent_fits m.outgoing m f
+act_fits act.Finish m can f = f
+act_fits act.Halt m can f = f
+
+pub acts_fit : (acts : List Act) (m : Machine) → IsPlayed m acts → PendingFits m → PendingFits (after_acts acts m)
+acts_fit [] m played f = f
+acts_fit (a ∷ acts) m played f = acts_fit acts (after_act a m) played.1 (act_fits a m played.0 f)
+
+pub run_fits : (own joined start : ℕ) (text : Marked) (acts : List Act) → IsPlayed (machine_from own joined start text) acts → PendingFits (after_acts acts (machine_from own joined start text))
+run_fits own joined start text acts played = acts_fit acts (machine_from own joined start text) played tt
