@@ -17,6 +17,7 @@ use std::mem::swap;
 /// The number of the performer who put it in, for each character of a text.
 #[derive(Debug, Drop)]
 pub struct Marks {
+    // The marks, in the order of the characters.
     marks: Vec<u32>,
     // Takes the marks that the next operation makes, in the room that was made for them.
     spare: Vec<u32>,
@@ -48,6 +49,13 @@ impl Marks {
         ensures short { result < 2 ^ 61 }
     {
         self.marks.as_slice().len() as u64
+    }
+
+    /// Whether no character has a mark.
+    pub fn is_empty(&self) -> bool
+        ensures { IsTrue result ↔ (self.now.marks ≡ []) }
+    {
+        self.marks.is_empty()
     }
 
     /// Makes the marks ready for the operation, which `apply` then takes without memory. At `Err` they are as they were.

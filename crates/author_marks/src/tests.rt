@@ -4,27 +4,24 @@ ghost use Rattle.ot_text.specs.Change.{effect};
 ghost use Rattle.author_marks.specs.Authorship.{mark_by};
 
 use crate::{Marks, Run, runs_law};
-use ot_text::{MAX_LEN, Op, OpBuilder, Text};
+use ot_text::{Op, OpBuilder, Part, Text};
 use std::alloc::{AllocError, Global};
 use std::process::Abort;
 use std::test::Fail;
 
 // Puts a text in behind so many characters, and removes so many behind it; want of memory if they are too many.
 fn op(alloc: Global, kept: u64, string: &str, cut: u64) -> Result<Op, AllocError> {
+    let parts = [
+        Part::Retain(kept),
+        Part::Insert(Text::of(alloc, string)?),
+        Part::Delete(cut),
+    ];
     let mut builder = OpBuilder::new(alloc);
-    if kept > MAX_LEN - builder.base() || kept > MAX_LEN - builder.target() {
-        return Err(AllocError);
+    for part in &parts {
+        if !builder.try_put(part)? {
+            return Err(AllocError);
+        }
     }
-    builder.retain(kept)?;
-    let text = Text::of(alloc, string)?;
-    if text.len() > MAX_LEN - builder.target() {
-        return Err(AllocError);
-    }
-    builder.insert(&text)?;
-    if cut > MAX_LEN - builder.base() {
-        return Err(AllocError);
-    }
-    builder.delete(cut)?;
     Ok(builder.finish())
 }
 

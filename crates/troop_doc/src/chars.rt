@@ -13,6 +13,7 @@ use std::mem::swap;
 /// Characters that an operation changes in place, once there is room.
 #[derive(Debug, Drop)]
 pub(crate) struct Chars {
+    // The characters, in order.
     chars: Vec<char>,
     // Takes the text that the next operation makes, in the room that was made for it.
     spare: Vec<char>,

@@ -16,7 +16,9 @@ use std::marker::Model;
 /// A text, each character with the number of the performer who put it in.
 #[derive(Debug, Drop)]
 pub struct Doc {
+    // The characters, in order.
     chars: Chars,
+    // The number of each one's performer.
     marks: Marks,
     // So many characters, in so many runs, may be put into both without memory.
     characters: u64,
@@ -54,6 +56,13 @@ impl Doc {
         ensures short { result < 2 ^ 61 }
     {
         self.chars.len()
+    }
+
+    /// Whether it has no characters.
+    pub fn is_empty(&self) -> bool
+        ensures { IsTrue result ↔ (self.now.pairs ≡ []) }
+    {
+        self.len() == 0
     }
 
     /// Makes the document ready for the operation, which `apply` then takes without memory. At `Err` it is as it was.
