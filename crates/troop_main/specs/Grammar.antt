@@ -40,6 +40,14 @@ seen_of d = option_and_then count_of (get (codes "seen") d)
 abbrev pub op_field : Data → Option Change
 op_field d = option_and_then op_of (get (codes "op") d)
 
+-- the number under which it is asked, by its key `num`; without that key it has none, which is 0
+abbrev pub num_by : Option Data → Option ℕ
+num_by None = Some 0
+num_by (Some d) = count_of d
+
+abbrev pub num_of : Data → Option ℕ
+num_of d = num_by (get (codes "num") d)
+
 -- its text, by its key `text`
 abbrev pub text_field : Data → Option (List ℕ)
 text_field d = option_and_then text_of (get (codes "text") d)
@@ -71,9 +79,9 @@ call_of d = option_and_then (λ word. call_of_word word d) (word_of d)
 abbrev pub guest_step : Data → Data → Option Step
 guest_step name language = option_and_then (λ n. option_map (λ l. step.Guest n l) (lang_of language)) (name_of name)
 
--- a call by this performer
+-- a call by this performer, under the number of its request
 abbrev pub call_step : Data → Data → Option Step
-call_step who request = option_and_then (λ w. option_map (λ c. step.Call w c) (call_of request)) (who_of who)
+call_step who request = option_and_then (λ w. option_and_then (λ n. option_map (λ c. step.Call w n c) (call_of request)) (num_of request)) (who_of who)
 
 -- the step of the word that the array begins with and of the elements behind it
 abbrev pub step_of_word : List ℕ → List Data → Option Step

@@ -13,13 +13,13 @@ use Rattle.troop_main.specs.Printed.{reply_line, server_line}
 
 -- the log after a step; the calls of a script come through seat 0
 abbrev pub after_step : List Row → Step → List Row
-after_step log (step.Guest name lang) = after log 0 0 (call.Join name lang)
-after_step log (step.Call who c) = after log 0 who c
+after_step log (step.Guest name lang) = after log 0 0 0 (call.Join name lang)
+after_step log (step.Call who num c) = after log 0 who num c
 
 -- what a step prints
 abbrev pub shown_step : List Row → Step → List ℕ
-shown_step log (step.Guest name lang) = reply_line (answer log 0 (call.Join name lang))
-shown_step log (step.Call who c) = reply_line (answer log who c)
+shown_step log (step.Guest name lang) = reply_line (answer log 0 0 (call.Join name lang))
+shown_step log (step.Call who num c) = reply_line (answer log who num c)
 
 -- the log after a line; a line that isn't a step leaves it as it is
 abbrev pub after_meaning : List Row → Meaning → List Row

@@ -3,7 +3,7 @@ ghost use Rattle.std.specs.Prelude.{◌≡◌, IfOk, map, option_map};
 ghost use Rattle.serde_json.specs.View.{view};
 ghost use Rattle.troop_main.specs.Grammar.{is_blank, value_of, guest_step, call_step, step_of_word, step_of_data, step_of, meaning_of};
 
-use crate::requests::read_call;
+use crate::requests::{read_call, read_num};
 use crate::values::{read_lang, read_name, read_who};
 use ot_text::Text;
 use serde_json::Value;
@@ -15,8 +15,8 @@ use troop_entry::{Call, Lang};
 pub enum Step {
     /// A performer of this name joins, and is played by the script's calls.
     Guest { name: Text, lang: Lang },
-    /// A call by the performer of this number, other than a join.
-    Call { who: u32, call: Call },
+    /// A call by the performer of this number, other than a join, under this number; 0 is none.
+    Call { who: u32, num: u64, call: Call },
 }
 
 /// What a line means.
@@ -128,8 +128,11 @@ fn read_call_step(alloc: Global, who: &Value, request: &Value) -> Result<Option<
     let Some(who) = read_who(who) else {
         return Ok(None);
     };
+    let Some(num) = read_num(request) else {
+        return Ok(None);
+    };
     match read_call(alloc, request)? {
-        Some(call) => Ok(Some(Step::Call { who, call })),
+        Some(call) => Ok(Some(Step::Call { who, num, call })),
         None => Ok(None),
     }
 }

@@ -15,8 +15,6 @@ mod print;
 mod report;
 mod requests;
 mod runs;
-#[cfg(test)]
-mod tests;
 mod top;
 mod values;
 mod words;

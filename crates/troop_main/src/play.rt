@@ -95,8 +95,8 @@ fn play_step(
     ensures shown { OnOk result (shown.new.items ≡ shown.old.items ++ shown_step desk.old step) }
 {
     let reply = match step {
-        Step::Guest { name, lang } => desk.serve(SEAT, 0, &Call::Join { name, lang })?,
-        Step::Call { who, call } => desk.serve(SEAT, who, &call)?,
+        Step::Guest { name, lang } => desk.serve(SEAT, 0, 0, &Call::Join { name, lang })?,
+        Step::Call { who, num, call } => desk.serve(SEAT, who, num, &call)?,
     };
     shown.extend_from_slice(&print_reply(alloc, reply)?)
 }

@@ -4,7 +4,7 @@ ghost use Rattle.serde_json.specs.Data.{array};
 ghost use Rattle.serde_json.specs.Written.{has_float};
 ghost use Rattle.serde_json.specs.View.{view, items_of};
 ghost use Rattle.log_model.specs.Log.{doc};
-ghost use Rattle.troop_main.specs.Printed.{line_of, run_data, document_data, server_line, member_data, ahead_data, base_data, crowded_data, reply_line};
+ghost use Rattle.troop_main.specs.Printed.{line_of, run_data, document_data, server_line, kept_data, clash_data, member_data, ahead_data, base_data, crowded_data, reply_line};
 
 use author_marks::Run;
 use ot_text::Text;
@@ -30,11 +30,25 @@ pub fn print_reply(alloc: Global, reply: Reply) -> Result<Vec<u8>, AllocError>
 {
     match reply {
         Reply::Placed { .. } => Ok(Vec::new(alloc)),
+        Reply::Kept { at, who } => print_value(alloc, &kept_value(alloc, at, who)?),
+        Reply::Clash { num, at } => print_value(alloc, &clash_value(alloc, num, at)?),
         Reply::NotMember { who } => print_value(alloc, &member_value(alloc, who)?),
         Reply::Ahead { seen, length } => print_value(alloc, &ahead_value(alloc, seen, length)?),
         Reply::BadBase { want, got } => print_value(alloc, &base_value(alloc, want, got)?),
         Reply::Crowded { joins } => print_value(alloc, &crowded_value(alloc, joins)?),
     }
+}
+
+fn kept_value(alloc: Global, at: u64, who: u32) -> Result<Value, AllocError>
+    ensures { IfOk result (λ v. view v ≡ kept_data at who) }
+{
+    json!(in alloc; {"at": at, "kept": true, "who": who})
+}
+
+fn clash_value(alloc: Global, num: u64, at: u64) -> Result<Value, AllocError>
+    ensures { IfOk result (λ v. view v ≡ clash_data num at) }
+{
+    json!(in alloc; {"at": at, "no": "clash", "num": num})
 }
 
 fn member_value(alloc: Global, who: u32) -> Result<Value, AllocError>

@@ -1,7 +1,7 @@
 //! The calls that a script's requests ask.
 ghost use Rattle.std.specs.Prelude.{◌≡◌, IfOk};
 ghost use Rattle.serde_json.specs.View.{view};
-ghost use Rattle.troop_main.specs.Grammar.{seen_of, op_field, text_field, edit_of, eval_of, reset_of, call_of_word, call_of};
+ghost use Rattle.troop_main.specs.Grammar.{seen_of, num_of, op_field, text_field, edit_of, eval_of, reset_of, call_of_word, call_of};
 
 use crate::operations::read_op;
 use crate::values::{read_count, read_text};
@@ -80,6 +80,16 @@ fn read_seen(request: &Value) -> Option<u64>
     ensures { result ≡ seen_of (view request.now) }
 {
     read_count(request.get("seen")?)
+}
+
+/// The number under which a request is asked; 0 is none, and stands for a key that isn't there.
+pub fn read_num(request: &Value) -> Option<u64>
+    ensures { result ≡ num_of (view request.now) }
+{
+    match request.get("num") {
+        Some(value) => read_count(value),
+        None => Some(0),
+    }
 }
 
 fn read_op_field(alloc: Global, request: &Value) -> Result<Option<Op>, AllocError>
