@@ -3,7 +3,8 @@ ghost use Rattle.std.specs.Prelude.{◌≡◌, ◌≤◌, ◌+◌, true, nat_le,
 ghost use Rattle.serde_json.specs.View.{view};
 ghost use Rattle.ot_text.specs.Change.{base, then, nothing};
 ghost use Rattle.ot_text.specs.Parts.{passed_by, part_then};
-ghost use Rattle.troop_main.specs.Values.{most_count, part_of_int, part_of, op_of_list, op_of};
+ghost use Rattle.troop_main.specs.Values.{most_count};
+ghost use Rattle.troop_main.specs.Operations.{part_of_int, part_of, op_of_list, op_of};
 
 use crate::values::MOST_COUNT;
 use ot_text::{MAX_LEN, Op, OpBuilder, Part, Text};

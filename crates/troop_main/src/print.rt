@@ -4,7 +4,7 @@ ghost use Rattle.serde_json.specs.Data.{array};
 ghost use Rattle.serde_json.specs.Written.{has_float};
 ghost use Rattle.serde_json.specs.View.{view, items_of};
 ghost use Rattle.log_model.specs.Log.{doc};
-ghost use Rattle.troop_main.specs.Printed.{line_of, run_data, document_data, server_line, kept_data, clash_data, member_data, ahead_data, base_data, crowded_data, reply_line};
+ghost use Rattle.troop_main.specs.Print.{line_of, run_data, document_data, server_line, kept_data, clash_data, member_data, ahead_data, base_data, crowded_data, reply_line};
 
 use author_marks::Run;
 use ot_text::Text;

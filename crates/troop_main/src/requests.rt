@@ -1,7 +1,7 @@
 //! The calls that a script's requests ask.
 ghost use Rattle.std.specs.Prelude.{◌≡◌, IfOk};
 ghost use Rattle.serde_json.specs.View.{view};
-ghost use Rattle.troop_main.specs.Grammar.{seen_of, num_of, op_field, text_field, edit_of, eval_of, reset_of, call_of_word, call_of};
+ghost use Rattle.troop_main.specs.Requests.{seen_of, num_of, op_field, text_field, edit_of, eval_of, reset_of, call_of_word, call_of};
 
 use crate::operations::read_op;
 use crate::values::{read_count, read_text};
