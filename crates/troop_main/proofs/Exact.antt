@@ -33,7 +33,7 @@ too_much outcome.TooMuch code bytes taken input out is says same found = (λ _. 
 too_much (outcome.Unbuilt n) code bytes taken input out is says same found = (λ e. absurd (omega (arith, is, e)), λ long. absurd (omega (arith, says.0.0, same, long)))
 
 pub too_much_is_exact : TooMuchExactly
-too_much_is_exact code input out err taken left run before after found =
+too_much_is_exact code input out err run taken left before after found =
     too_much run.outcome code run.bytes taken input out run.code_is run.says (taken_length run.bytes taken left input run.given before after) found
 
 -- at its end the input has given all
@@ -71,5 +71,5 @@ unbuilt (outcome.Unbuilt m) code bytes all input out err is says given reported 
     (λ _. (m, at_m), λ n at_n. (is, subst (λ k. Reported err (error_line (outcome.Unbuilt k))) (same_number all m n at_m.1 at_n.1) reported))
 
 pub unbuilt_is_exact : UnbuiltExactly
-unbuilt_is_exact code input out err all run before calm found =
+unbuilt_is_exact code input out err run all before calm found =
     unbuilt run.outcome code run.bytes all input out err run.code_is run.says (sym before ∙ run.given) run.reported calm found

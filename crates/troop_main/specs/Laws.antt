@@ -1,12 +1,9 @@
 -- Laws: which line is the first that isn't built, and that the statuses of `replay` are exact.
-use Rattle.std.specs.Prelude.{◌≡◌, ◌≢◌, ℕ, ◌+◌, ◌<◌, List, ◌∷◌, ◌++◌, length, All, Some, None, ◌↔◌}
-use Rattle.troop_main.specs.declared.outcome.Outcome.TheVariants as outcome
+use Rattle.std.specs.Prelude.{◌≡◌, ◌≢◌, ℕ, ◌+◌, List, ◌∷◌, ◌++◌, length, All, Some, None, ◌↔◌}
 use Rattle.troop_main.specs.Lines.{lines}
 use Rattle.troop_main.specs.Play.{output, steps_of, first_unbuilt, IsBuiltLine, IsUnbuiltLine}
-use Rattle.troop_main.specs.Input.{most_input}
-use Rattle.troop_main.specs.Ports.{Port, IsCalm, IsFaulted, Took, Reported}
-use Rattle.troop_main.specs.Outcome.{error_line}
-use Rattle.troop_main.specs.Runs.{IsBuilt, IsUnbuiltAt, Replays}
+use Rattle.troop_main.specs.Ports.{Port, IsCalm, IsFaulted, Took}
+use Rattle.troop_main.specs.Runs.{IsBuilt, Replays, IsTooMuchExactly, IsUnbuiltExactly}
 
 -- line n of a script isn't built, and each line before it is
 pub record IsFirstUnbuilt (script : List (List ℕ)) (n : ℕ) : Type 0 where
@@ -23,17 +20,13 @@ abbrev pub FirstUnbuilt : Type 0
 FirstUnbuilt = (script : List (List ℕ))
     → ((n : ℕ) → first_unbuilt 1 script ≡ Some n → IsFirstUnbuilt script n) × (first_unbuilt 1 script ≡ None → All IsBuiltLine script)
 
--- But for want of memory, 10 is answered exactly where more bytes were taken than an input may have.
+-- 10 is exact.
 abbrev pub TooMuchExactly : Type 0
-TooMuchExactly = (code : ℕ) (input out err : Port) (taken left : List ℕ) → Replays code input out err
-    → input.before ≡ Some (taken ++ left) → input.after ≡ Some left → code ≢ 3
-    → (code ≡ 10) ↔ (most_input < length taken)
+TooMuchExactly = (code : ℕ) (input out err : Port) → Replays code input out err → IsTooMuchExactly code input
 
--- But for want of memory and for a fault of the input, 12 is answered exactly where a line isn't built, and its number is that of the first one.
+-- 12 is exact.
 abbrev pub UnbuiltExactly : Type 0
-UnbuiltExactly = (code : ℕ) (input out err : Port) (bytes : List ℕ) → Replays code input out err
-    → input.before ≡ Some bytes → (IsFaulted input → ⊥) → code ≢ 3
-    → (code ≡ 12 → (n : ℕ) × IsUnbuiltAt bytes n) × ((n : ℕ) → IsUnbuiltAt bytes n → (code ≡ 12) × Reported err (error_line (outcome.Unbuilt n)))
+UnbuiltExactly = (code : ℕ) (input out err : Port) → Replays code input out err → IsUnbuiltExactly code input err
 
 -- But for want of memory and for faults, 0 is answered exactly where every line is built, and all that the lines print was written.
 abbrev pub DoneExactly : Type 0

@@ -1,5 +1,5 @@
 -- The table of `replay`: what each outcome says of the bytes that the input gave, of the input and of the output.
-use Rattle.std.specs.Prelude.{ℕ, List, Some, None, length, ◌≡◌, ◌<◌, ◌≤◌}
+use Rattle.std.specs.Prelude.{ℕ, ◌≢◌, ◌↔◌, ◌++◌, List, Some, None, length, ◌≡◌, ◌<◌, ◌≤◌}
 use Rattle.troop_main.specs.declared.outcome.Outcome.{Outcome}
 use Rattle.troop_main.specs.declared.outcome.Outcome.TheVariants as outcome
 use Rattle.troop_main.specs.Ports.{Port, IsCalm, IsFaulted, Gave, IsAtEnd, Took, TookPrefix, IsUntouched, Reported}
@@ -34,6 +34,17 @@ pub record Replays (code : ℕ) (input out err : Port) : Type 0 where
   pub says : Says outcome bytes input out
   pub code_is : code ≡ code_of outcome
   pub reported : Reported err (error_line outcome)
+
+-- ---- But for want of memory, 10 and 12 are exact.
+
+-- but for 3, the status is 10 exactly where more bytes were taken than an input may have
+abbrev pub IsTooMuchExactly : ℕ → Port → Type 0
+IsTooMuchExactly code input = (taken left : List ℕ) → input.before ≡ Some (taken ++ left) → input.after ≡ Some left → code ≢ 3 → (code ≡ 10) ↔ (most_input < length taken)
+
+-- but for 3 and for a fault of the input, the status is 12 exactly where a line isn't built, and the number that is reported is that of the first one
+abbrev pub IsUnbuiltExactly : ℕ → Port → Port → Type 0
+IsUnbuiltExactly code input err = (bytes : List ℕ) → input.before ≡ Some bytes → (IsFaulted input → ⊥) → code ≢ 3
+    → (code ≡ 12 → (n : ℕ) × IsUnbuiltAt bytes n) × ((n : ℕ) → IsUnbuiltAt bytes n → (code ≡ 12) × Reported err (error_line (outcome.Unbuilt n)))
 
 -- ---- The two steps of a run: the input is read, and what is in memory is played.
 

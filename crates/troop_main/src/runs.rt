@@ -1,7 +1,7 @@
 //! The run of a script from an input to an output.
 ghost use Rattle.std.specs.Prelude.{◌≡◌, false};
 ghost use Rattle.troop_main.specs.Ports.{port_of};
-ghost use Rattle.troop_main.specs.Runs.{Replays, Runs, PlaysOut};
+ghost use Rattle.troop_main.specs.Runs.{Replays, IsTooMuchExactly, IsUnbuiltExactly, Runs, PlaysOut};
 
 use crate::Outcome;
 use crate::input::{Input, read_input};
@@ -11,7 +11,8 @@ use troop_ports::{Sink, Source, Status, Written, write_all};
 
 /// Plays the script that the input gives, writes what it prints, and reports how the run ended.
 ///
-/// The whole input is read first. A fault of `err` changes no status.
+/// The whole input is read first. A fault of `err` changes no status. `table` is the table of statuses, and beside it 10 and 12
+/// are exact but for 3, which stands for want of memory wherever that comes.
 pub fn replay<I: Source, O: Sink, E: Sink>(
     alloc: Global,
     input: &mut I,
@@ -21,9 +22,14 @@ pub fn replay<I: Source, O: Sink, E: Sink>(
     requires input_open { I.closed input.old ≡ false }
     requires out_open { O.closed out.old ≡ false }
     requires err_open { E.closed err.old ≡ false }
-    ensures { Replays result.code
+    ensures table { Replays result.code
         (port_of (I.left input.old) (I.left input.new) (I.faults input.old) (I.faults input.new))
         (port_of (O.taken out.old) (O.taken out.new) (O.faults out.old) (O.faults out.new))
+        (port_of (E.taken err.old) (E.taken err.new) (E.faults err.old) (E.faults err.new)) }
+    ensures too_much { IsTooMuchExactly result.code
+        (port_of (I.left input.old) (I.left input.new) (I.faults input.old) (I.faults input.new)) }
+    ensures unbuilt { IsUnbuiltExactly result.code
+        (port_of (I.left input.old) (I.left input.new) (I.faults input.old) (I.faults input.new))
         (port_of (E.taken err.old) (E.taken err.new) (E.faults err.old) (E.faults err.new)) }
 {
     run(alloc, input, out).report(err)
