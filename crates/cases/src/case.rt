@@ -68,6 +68,7 @@ impl Case {
     }
 }
 
+// The line without the line feed at its end.
 fn without_feed(line: &[u8]) -> &[u8] {
     line.strip_suffix(b"\n").unwrap_or(line)
 }

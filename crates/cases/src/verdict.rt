@@ -11,7 +11,9 @@ const ROOM: u64 = 1_000_000;
 /// Whether a case holds, and what is told of it.
 #[derive(Debug, Drop)]
 pub struct Verdict {
+    /// Whether every run printed what the case says.
     pub holds: bool,
+    /// What is printed of it.
     pub told: String,
 }
 

@@ -43,12 +43,14 @@ pub fn read_line(alloc: Global, line: &[u8]) -> Result<Meaning, AllocError>
     }
 }
 
+// White space alone.
 fn is_blank(line: &[u8]) -> bool
     ensures { result ≡ is_blank line.now }
 {
-    line.iter().all(|b| *b == b' ' || *b == b'\t' || *b == b'\n' || *b == b'\r')
+    line.iter().all(|b| matches!(*b, b' ' | b'\t' | b'\n' | b'\r'))
 }
 
+// The step of a line.
 fn read_step(alloc: Global, line: &[u8]) -> Result<Option<Step>, AllocError>
     ensures { IfOk result (λ step. step ≡ step_of line.now) }
 {
@@ -77,6 +79,7 @@ fn read_value(alloc: Global, line: &[u8]) -> Result<Option<Value>, AllocError>
     }
 }
 
+// The step of a value.
 fn read_array(alloc: Global, value: &Value) -> Result<Option<Step>, AllocError>
     ensures { IfOk result (λ step. step ≡ step_of_data (view value.now)) }
 {
@@ -110,18 +113,17 @@ fn read_others(alloc: Global, word: &str, others: &[Value]) -> Result<Option<Ste
     }
 }
 
+// A guest of this name and language.
 fn read_guest(alloc: Global, name: &Value, lang: &Value) -> Result<Option<Step>, AllocError>
     ensures { IfOk result (λ step. step ≡ guest_step (view name.now) (view lang.now)) }
 {
     let Some(name) = read_name(alloc, name)? else {
         return Ok(None);
     };
-    match read_lang(lang) {
-        Some(lang) => Ok(Some(Step::Guest { name, lang })),
-        None => Ok(None),
-    }
+    Ok(read_lang(lang).map(|lang| Step::Guest { name, lang }))
 }
 
+// A call by this performer, under the number of its request.
 fn read_call_step(alloc: Global, who: &Value, request: &Value) -> Result<Option<Step>, AllocError>
     ensures { IfOk result (λ step. step ≡ call_step (view who.now) (view request.now)) }
 {
@@ -131,8 +133,5 @@ fn read_call_step(alloc: Global, who: &Value, request: &Value) -> Result<Option<
     let Some(num) = read_num(request) else {
         return Ok(None);
     };
-    match read_call(alloc, request)? {
-        Some(call) => Ok(Some(Step::Call { who, num, call })),
-        None => Ok(None),
-    }
+    Ok(read_call(alloc, request)?.map(|call| Step::Call { who, num, call }))
 }

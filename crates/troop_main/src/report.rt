@@ -21,6 +21,7 @@ impl Outcome {
     }
 }
 
+// Writes the line of an outcome.
 fn report_line<E: Sink>(outcome: Outcome, err: &mut E)
     requires { E.closed err.old ≡ false }
     ensures { Reported (port_of (E.taken err.old) (E.taken err.new) (E.faults err.old) (E.faults err.new)) (error_line outcome) }
@@ -44,6 +45,7 @@ fn write_line<E: Sink>(err: &mut E, line: &[u8])
     let _ = write_all(err, line);
 }
 
+// Writes the line of the outcome that names a line.
 fn report_unbuilt<E: Sink>(line: u64, err: &mut E)
     requires { E.closed err.old ≡ false }
     ensures { Reported (port_of (E.taken err.old) (E.taken err.new) (E.faults err.old) (E.faults err.new))
@@ -55,6 +57,7 @@ fn report_unbuilt<E: Sink>(line: u64, err: &mut E)
     }
 }
 
+// Writes that line from its number on.
 fn report_number<E: Sink>(line: u64, err: &mut E)
     requires { E.closed err.old ≡ false }
     ensures { Reported (port_of (E.taken err.old) (E.taken err.new) (E.faults err.old) (E.faults err.new))
@@ -65,6 +68,7 @@ fn report_number<E: Sink>(line: u64, err: &mut E)
     report_digits(digits.as_bytes(), err);
 }
 
+// Writes these digits, and the end of that line.
 fn report_digits<E: Sink>(digits: &[u8], err: &mut E)
     requires { E.closed err.old ≡ false }
     ensures { Reported (port_of (E.taken err.old) (E.taken err.new) (E.faults err.old) (E.faults err.new))

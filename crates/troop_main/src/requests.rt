@@ -40,42 +40,37 @@ fn read_call_of(alloc: Global, word: &str, request: &Value) -> Result<Option<Cal
     }
 }
 
+// An edit, by the keys `seen` and `op`.
 fn read_edit(alloc: Global, request: &Value) -> Result<Option<Call>, AllocError>
     ensures { IfOk result (λ call. call ≡ edit_of (view request.now)) }
 {
     let Some(seen) = read_seen(request) else {
         return Ok(None);
     };
-    match read_op_field(alloc, request)? {
-        Some(op) => Ok(Some(Call::Edit { seen, op })),
-        None => Ok(None),
-    }
+    Ok(read_op_field(alloc, request)?.map(|op| Call::Edit { seen, op }))
 }
 
+// An evaluation, by the keys `seen` and `text`.
 fn read_eval(alloc: Global, request: &Value) -> Result<Option<Call>, AllocError>
     ensures { IfOk result (λ call. call ≡ eval_of (view request.now)) }
 {
     let Some(seen) = read_seen(request) else {
         return Ok(None);
     };
-    match read_text_field(alloc, request)? {
-        Some(text) => Ok(Some(Call::Eval { seen, text })),
-        None => Ok(None),
-    }
+    Ok(read_text_field(alloc, request)?.map(|text| Call::Eval { seen, text }))
 }
 
+// A reset, by the keys `seen` and `text`.
 fn read_reset(alloc: Global, request: &Value) -> Result<Option<Call>, AllocError>
     ensures { IfOk result (λ call. call ≡ reset_of (view request.now)) }
 {
     let Some(seen) = read_seen(request) else {
         return Ok(None);
     };
-    match read_text_field(alloc, request)? {
-        Some(text) => Ok(Some(Call::Reset { seen, text })),
-        None => Ok(None),
-    }
+    Ok(read_text_field(alloc, request)?.map(|text| Call::Reset { seen, text }))
 }
 
+// How many rows its maker had seen.
 fn read_seen(request: &Value) -> Option<u64>
     ensures { result ≡ seen_of (view request.now) }
 {
@@ -92,6 +87,7 @@ pub fn read_num(request: &Value) -> Option<u64>
     }
 }
 
+// The operation of a request.
 fn read_op_field(alloc: Global, request: &Value) -> Result<Option<Op>, AllocError>
     ensures { IfOk result (λ op. op ≡ op_field (view request.now)) }
 {
@@ -101,6 +97,7 @@ fn read_op_field(alloc: Global, request: &Value) -> Result<Option<Op>, AllocErro
     }
 }
 
+// The text of a request.
 fn read_text_field(alloc: Global, request: &Value) -> Result<Option<Text>, AllocError>
     ensures { IfOk result (λ text. text ≡ text_field (view request.now)) }
 {

@@ -18,12 +18,7 @@ const LONGEST_NAME: u64 = 32;
 pub fn read_count(value: &Value) -> Option<u64>
     ensures { result ≡ count_of (view value.now) }
 {
-    let count = value.as_u64()?;
-    if count <= MOST_COUNT {
-        Some(count)
-    } else {
-        None
-    }
+    value.as_u64().filter(|count| *count <= MOST_COUNT)
 }
 
 /// The number of a performer.
