@@ -47,7 +47,8 @@ pub fn read_line(alloc: Global, line: &[u8]) -> Result<Meaning, AllocError>
 fn is_blank(line: &[u8]) -> bool
     ensures { result ≡ is_blank line.now }
 {
-    line.iter().all(|b| matches!(*b, b' ' | b'\t' | b'\n' | b'\r'))
+    line.iter()
+        .all(|b| matches!(*b, b' ' | b'\t' | b'\n' | b'\r'))
 }
 
 // The step of a line.
@@ -99,16 +100,9 @@ fn read_array(alloc: Global, value: &Value) -> Result<Option<Step>, AllocError>
 fn read_others(alloc: Global, word: &str, others: &[Value]) -> Result<Option<Step>, AllocError>
     ensures { IfOk result (λ step. step ≡ step_of_word word.now (map view others.now)) }
 {
-    match others {
-        [first, second] => {
-            if word == "guest" {
-                read_guest(alloc, first, second)
-            } else if word == "call" {
-                read_call_step(alloc, first, second)
-            } else {
-                Ok(None)
-            }
-        }
+    match (word, others) {
+        ("guest", [name, lang]) => read_guest(alloc, name, lang),
+        ("call", [who, request]) => read_call_step(alloc, who, request),
         _ => Ok(None),
     }
 }

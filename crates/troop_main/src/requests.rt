@@ -27,16 +27,12 @@ pub fn read_call(alloc: Global, request: &Value) -> Result<Option<Call>, AllocEr
 fn read_call_of(alloc: Global, word: &str, request: &Value) -> Result<Option<Call>, AllocError>
     ensures { IfOk result (λ call. call ≡ call_of_word word.now (view request.now)) }
 {
-    if word == "leave" {
-        Ok(Some(Call::Leave))
-    } else if word == "edit" {
-        read_edit(alloc, request)
-    } else if word == "eval" {
-        read_eval(alloc, request)
-    } else if word == "reset" {
-        read_reset(alloc, request)
-    } else {
-        Ok(None)
+    match word {
+        "leave" => Ok(Some(Call::Leave)),
+        "edit" => read_edit(alloc, request),
+        "eval" => read_eval(alloc, request),
+        "reset" => read_reset(alloc, request),
+        _ => Ok(None),
     }
 }
 
