@@ -6,11 +6,12 @@ use Rattle.troop_ports.specs.Bytes.{in_front}
 use Rattle.troop_main.specs.declared.outcome.Outcome.{Outcome}
 use Rattle.troop_main.specs.declared.outcome.Outcome.TheVariants as outcome
 use Rattle.troop_main.specs.Lines.{lines}
-use Rattle.troop_main.specs.Script.{first_unbuilt}
+use Rattle.troop_main.specs.Play.{first_unbuilt}
 use Rattle.troop_main.specs.Input.{most_input}
 use Rattle.troop_main.specs.Ports.{Port, IsFaulted, Gave, Reported}
-use Rattle.troop_main.specs.Statuses.{IsUnbuiltAt, Says, code_of, error_line}
-use Rattle.troop_main.specs.Exactly.{TooMuchExactly, UnbuiltExactly}
+use Rattle.troop_main.specs.Runs.{IsUnbuiltAt, Says}
+use Rattle.troop_main.specs.Outcome.{code_of, error_line}
+use Rattle.troop_main.specs.Laws.{TooMuchExactly, UnbuiltExactly}
 
 -- as many bytes were taken as are missing
 same_length : (bytes taken left : List ℕ) → Some (taken ++ left) ≡ in_front bytes (Some left) → length taken ≡ length bytes
@@ -24,6 +25,7 @@ taken_length bytes taken left input given before after = same_length bytes taken
 too_much : (end : Outcome) (code : ℕ) (bytes taken : List ℕ) (input out : Port) → code ≡ code_of end → Says end bytes input out
     → length taken ≡ length bytes → code ≢ 3 → (code ≡ 10) ↔ (most_input < length taken)
 too_much outcome.Done code bytes taken input out is says same found = (λ e. absurd (omega (arith, is, e)), λ long. absurd (omega (arith, says.0.0, same, long)))
+too_much outcome.Usage code bytes taken input out is says same found = absurd says
 too_much outcome.Memory code bytes taken input out is says same found = absurd (found is)
 too_much outcome.ReadFault code bytes taken input out is says same found = (λ e. absurd (omega (arith, is, e)), λ long. absurd (omega (arith, says.0, same, long)))
 too_much outcome.WriteFault code bytes taken input out is says same found = (λ e. absurd (omega (arith, is, e)), λ long. absurd (omega (arith, says.0.0, same, long)))
@@ -31,7 +33,7 @@ too_much outcome.TooMuch code bytes taken input out is says same found = (λ _. 
 too_much (outcome.Unbuilt n) code bytes taken input out is says same found = (λ e. absurd (omega (arith, is, e)), λ long. absurd (omega (arith, says.0.0, same, long)))
 
 pub too_much_is_exact : TooMuchExactly
-too_much_is_exact code input out err taken left run before after found =
+too_much_is_exact code input out err run taken left before after found =
     too_much run.outcome code run.bytes taken input out run.code_is run.says (taken_length run.bytes taken left input run.given before after) found
 
 -- at its end the input has given all
@@ -57,6 +59,7 @@ unbuilt : (end : Outcome) (code : ℕ) (bytes all : List ℕ) (input out err : P
     → (code ≡ 12 → (n : ℕ) × IsUnbuiltAt all n) × ((n : ℕ) → IsUnbuiltAt all n → (code ≡ 12) × Reported err (error_line (outcome.Unbuilt n)))
 unbuilt outcome.Done code bytes all input out err is says given reported calm found =
     (λ e. absurd (omega (arith, is, e)), λ n at. absurd (none_is_some all n (subst (λ b. first_unbuilt 1 (lines b) ≡ None) (sym (whole bytes all input.after given says.1)) says.0.1) at.1))
+unbuilt outcome.Usage code bytes all input out err is says given reported calm found = absurd says
 unbuilt outcome.Memory code bytes all input out err is says given reported calm found = absurd (found is)
 unbuilt outcome.ReadFault code bytes all input out err is says given reported calm found = absurd (calm says.1)
 unbuilt outcome.WriteFault code bytes all input out err is says given reported calm found =
@@ -68,5 +71,5 @@ unbuilt (outcome.Unbuilt m) code bytes all input out err is says given reported 
     (λ _. (m, at_m), λ n at_n. (is, subst (λ k. Reported err (error_line (outcome.Unbuilt k))) (same_number all m n at_m.1 at_n.1) reported))
 
 pub unbuilt_is_exact : UnbuiltExactly
-unbuilt_is_exact code input out err all run before calm found =
+unbuilt_is_exact code input out err run all before calm found =
     unbuilt run.outcome code run.bytes all input out err run.code_is run.says (sym before ∙ run.given) run.reported calm found

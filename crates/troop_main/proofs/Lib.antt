@@ -6,3 +6,5 @@ pub mod Reports
 pub mod Fronts
 pub mod Printing
 pub mod Exact
+pub mod Steps
+pub mod FirstLines

@@ -12,7 +12,8 @@ use Rattle.ot_text.specs.declared.part.Part.{Part}
 use Rattle.ot_text.specs.Parts.{passed_by, base_of, part_then, norm}
 use Rattle.ot_text.proofs.Sums.{base-norm}
 use Rattle.ot_text.proofs.Then.{norm-append}
-use Rattle.troop_main.specs.Values.{most_count, elements, part_of, parts_of_list, op_of_parts, op_of_list}
+use Rattle.troop_main.specs.Values.{most_count, elements}
+use Rattle.troop_main.specs.Operations.{part_of, parts_of_list, op_of_parts, op_of_list}
 
 base_of-append : (ps qs : List Part) → base_of (ps ++ qs) ≡ base_of ps + base_of qs
 base_of-append ps qs = sum_by-append passed_by ps qs

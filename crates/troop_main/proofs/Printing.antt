@@ -7,7 +7,7 @@ use Rattle.serde_json.specs.Written.{has_float, items_have_float}
 use Rattle.ot_text.specs.Marked.{Marked, text_of, marks_of, runs_of}
 use Rattle.author_marks.specs.declared.run.Run.{Run}
 use Rattle.author_marks.specs.Runs.{run_of}
-use Rattle.troop_main.specs.Printed.{run_data, document_data, server_data}
+use Rattle.troop_main.specs.Print.{run_data, document_data, server_data}
 
 pub runs_have_none : (runs : List Run) → items_have_float (items_of (map run_data runs)) ≡ false
 runs_have_none [] = refl

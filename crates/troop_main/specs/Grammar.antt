@@ -4,15 +4,13 @@ use Rattle.std.specs.List.{list_all}
 use Rattle.std.specs.Str.{is_utf8}
 use Rattle.serde_json.specs.Data.{Data}
 use Rattle.serde_json.specs.Read.{read}
-use Rattle.serde_json.specs.Find.{get, as_str, as_array}
-use Rattle.ot_text.specs.Change.{Change}
-use Rattle.troop_entry.specs.declared.call.Call.{Call}
-use Rattle.troop_entry.specs.declared.call.Call.TheVariants as call
+use Rattle.serde_json.specs.Find.{as_str, as_array}
 use Rattle.troop_main.specs.declared.grammar.Step.{Step}
-use Rattle.troop_main.specs.declared.grammar.Step.TheVariants as step
 use Rattle.troop_main.specs.declared.grammar.Meaning.{Meaning}
+use Rattle.troop_main.specs.declared.grammar.Step.TheVariants as step
 use Rattle.troop_main.specs.declared.grammar.Meaning.TheVariants as meaning
-use Rattle.troop_main.specs.Values.{count_of, who_of, text_of, name_of, lang_of, op_of, elements}
+use Rattle.troop_main.specs.Requests.{num_of, call_of}
+use Rattle.troop_main.specs.Values.{who_of, name_of, lang_of, elements}
 
 -- white space of JSON (RFC 8259): space, tab, line feed, carriage return
 abbrev pub is_space : ℕ → Bool
@@ -26,54 +24,13 @@ is_blank line = list_all is_space line
 unfoldable pub value_of : List ℕ → Option Data
 value_of line = if is_utf8 line then read line else None
 
--- ---- requests: objects, of which other keys than those that are named are ignored
-
--- what a request asks, by its key `call`
-abbrev pub word_of : Data → Option (List ℕ)
-word_of d = option_and_then as_str (get (codes "call") d)
-
--- how many rows its maker had seen, by its key `seen`
-abbrev pub seen_of : Data → Option ℕ
-seen_of d = option_and_then count_of (get (codes "seen") d)
-
--- its operation, by its key `op`
-abbrev pub op_field : Data → Option Change
-op_field d = option_and_then op_of (get (codes "op") d)
-
--- its text, by its key `text`
-abbrev pub text_field : Data → Option (List ℕ)
-text_field d = option_and_then text_of (get (codes "text") d)
-
-abbrev pub edit_of : Data → Option Call
-edit_of d = option_and_then (λ seen. option_map (λ op. call.Edit seen op) (op_field d)) (seen_of d)
-
-abbrev pub eval_of : Data → Option Call
-eval_of d = option_and_then (λ seen. option_map (λ text. call.Eval seen text) (text_field d)) (seen_of d)
-
-abbrev pub reset_of : Data → Option Call
-reset_of d = option_and_then (λ seen. option_map (λ text. call.Reset seen text) (text_field d)) (seen_of d)
-
--- the call of a request that asks this
-abbrev pub call_of_word : List ℕ → Data → Option Call
-call_of_word word d =
-    if bytes_eq word (codes "leave") then Some call.Leave
-    else (if bytes_eq word (codes "edit") then edit_of d
-    else (if bytes_eq word (codes "eval") then eval_of d
-    else (if bytes_eq word (codes "reset") then reset_of d else None)))
-
--- the call of a request: a leave, an edit, an evaluation or a reset
-abbrev pub call_of : Data → Option Call
-call_of d = option_and_then (λ word. call_of_word word d) (word_of d)
-
--- ---- steps
-
 -- a guest of this name and language
 abbrev pub guest_step : Data → Data → Option Step
 guest_step name language = option_and_then (λ n. option_map (λ l. step.Guest n l) (lang_of language)) (name_of name)
 
--- a call by this performer
+-- a call by this performer, under the number of its request
 abbrev pub call_step : Data → Data → Option Step
-call_step who request = option_and_then (λ w. option_map (λ c. step.Call w c) (call_of request)) (who_of who)
+call_step who request = option_and_then (λ w. option_and_then (λ n. option_map (λ c. step.Call w n c) (call_of request)) (num_of request)) (who_of who)
 
 -- the step of the word that the array begins with and of the elements behind it
 abbrev pub step_of_word : List ℕ → List Data → Option Step

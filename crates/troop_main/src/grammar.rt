@@ -3,7 +3,7 @@ ghost use Rattle.std.specs.Prelude.{◌≡◌, IfOk, map, option_map};
 ghost use Rattle.serde_json.specs.View.{view};
 ghost use Rattle.troop_main.specs.Grammar.{is_blank, value_of, guest_step, call_step, step_of_word, step_of_data, step_of, meaning_of};
 
-use crate::requests::read_call;
+use crate::requests::{read_call, read_num};
 use crate::values::{read_lang, read_name, read_who};
 use ot_text::Text;
 use serde_json::Value;
@@ -15,8 +15,8 @@ use troop_entry::{Call, Lang};
 pub enum Step {
     /// A performer of this name joins, and is played by the script's calls.
     Guest { name: Text, lang: Lang },
-    /// A call by the performer of this number, other than a join.
-    Call { who: u32, call: Call },
+    /// A call by the performer of this number, other than a join, under this number; 0 is none.
+    Call { who: u32, num: u64, call: Call },
 }
 
 /// What a line means.
@@ -43,12 +43,15 @@ pub fn read_line(alloc: Global, line: &[u8]) -> Result<Meaning, AllocError>
     }
 }
 
+// White space alone.
 fn is_blank(line: &[u8]) -> bool
     ensures { result ≡ is_blank line.now }
 {
-    line.iter().all(|b| *b == b' ' || *b == b'\t' || *b == b'\n' || *b == b'\r')
+    line.iter()
+        .all(|b| matches!(*b, b' ' | b'\t' | b'\n' | b'\r'))
 }
 
+// The step of a line.
 fn read_step(alloc: Global, line: &[u8]) -> Result<Option<Step>, AllocError>
     ensures { IfOk result (λ step. step ≡ step_of line.now) }
 {
@@ -77,6 +80,7 @@ fn read_value(alloc: Global, line: &[u8]) -> Result<Option<Value>, AllocError>
     }
 }
 
+// The step of a value.
 fn read_array(alloc: Global, value: &Value) -> Result<Option<Step>, AllocError>
     ensures { IfOk result (λ step. step ≡ step_of_data (view value.now)) }
 {
@@ -96,40 +100,32 @@ fn read_array(alloc: Global, value: &Value) -> Result<Option<Step>, AllocError>
 fn read_others(alloc: Global, word: &str, others: &[Value]) -> Result<Option<Step>, AllocError>
     ensures { IfOk result (λ step. step ≡ step_of_word word.now (map view others.now)) }
 {
-    match others {
-        [first, second] => {
-            if word == "guest" {
-                read_guest(alloc, first, second)
-            } else if word == "call" {
-                read_call_step(alloc, first, second)
-            } else {
-                Ok(None)
-            }
-        }
+    match (word, others) {
+        ("guest", [name, lang]) => read_guest(alloc, name, lang),
+        ("call", [who, request]) => read_call_step(alloc, who, request),
         _ => Ok(None),
     }
 }
 
+// A guest of this name and language.
 fn read_guest(alloc: Global, name: &Value, lang: &Value) -> Result<Option<Step>, AllocError>
     ensures { IfOk result (λ step. step ≡ guest_step (view name.now) (view lang.now)) }
 {
     let Some(name) = read_name(alloc, name)? else {
         return Ok(None);
     };
-    match read_lang(lang) {
-        Some(lang) => Ok(Some(Step::Guest { name, lang })),
-        None => Ok(None),
-    }
+    Ok(read_lang(lang).map(|lang| Step::Guest { name, lang }))
 }
 
+// A call by this performer, under the number of its request.
 fn read_call_step(alloc: Global, who: &Value, request: &Value) -> Result<Option<Step>, AllocError>
     ensures { IfOk result (λ step. step ≡ call_step (view who.now) (view request.now)) }
 {
     let Some(who) = read_who(who) else {
         return Ok(None);
     };
-    match read_call(alloc, request)? {
-        Some(call) => Ok(Some(Step::Call { who, call })),
-        None => Ok(None),
-    }
+    let Some(num) = read_num(request) else {
+        return Ok(None);
+    };
+    Ok(read_call(alloc, request)?.map(|call| Step::Call { who, num, call }))
 }

@@ -1,10 +1,15 @@
 //! Laws of the lines and of the statuses, each the contract of a function that does nothing.
 ghost use Rattle.troop_main.specs.Lines.{LinesArePieces};
-ghost use Rattle.troop_main.specs.Exactly.{TooMuchExactly, UnbuiltExactly, DoneExactly, FaultsExactly};
+ghost use Rattle.troop_main.specs.Laws.{FirstUnbuilt, TooMuchExactly, UnbuiltExactly, DoneExactly, FaultsExactly};
 
 /// The lines are the pieces between line feeds, and what stands behind the last one.
 pub fn lines_law()
     ensures { LinesArePieces }
+{}
+
+/// The line that is reported isn't built, and each one before it is; where none is reported, every line is built.
+pub fn first_unbuilt_law()
+    ensures { FirstUnbuilt }
 {}
 
 /// Too much input is answered exactly where more bytes were taken than an input may have.

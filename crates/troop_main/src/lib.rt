@@ -21,7 +21,9 @@ mod top;
 mod values;
 mod words;
 
-pub use laws::{done_exactly, faults_exactly, lines_law, too_much_exactly, unbuilt_exactly};
+pub use laws::{
+    done_exactly, faults_exactly, first_unbuilt_law, lines_law, too_much_exactly, unbuilt_exactly,
+};
 pub use outcome::Outcome;
 pub use runs::replay;
 pub use top::troop;

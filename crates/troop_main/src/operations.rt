@@ -3,7 +3,8 @@ ghost use Rattle.std.specs.Prelude.{◌≡◌, ◌≤◌, ◌+◌, true, nat_le,
 ghost use Rattle.serde_json.specs.View.{view};
 ghost use Rattle.ot_text.specs.Change.{base, then, nothing};
 ghost use Rattle.ot_text.specs.Parts.{passed_by, part_then};
-ghost use Rattle.troop_main.specs.Values.{most_count, part_of_int, part_of, op_of_list, op_of};
+ghost use Rattle.troop_main.specs.Values.{most_count};
+ghost use Rattle.troop_main.specs.Operations.{part_of_int, part_of, op_of_list, op_of};
 
 use crate::values::MOST_COUNT;
 use ot_text::{MAX_LEN, Op, OpBuilder, Part, Text};
@@ -20,6 +21,7 @@ pub fn read_op(alloc: Global, value: &Value) -> Result<Option<Op>, AllocError>
     }
 }
 
+// The operation of these elements.
 fn read_parts(alloc: Global, items: &[Value]) -> Result<Option<Op>, AllocError>
     ensures { IfOk result (λ op. op ≡ op_of_list (map view items.now)) }
 {
@@ -42,12 +44,10 @@ fn read_part(alloc: Global, value: &Value) -> Result<Option<Part>, AllocError>
     if let Some(string) = value.as_str() {
         return Ok(Some(Part::Insert(Text::of(alloc, string)?)));
     }
-    match value.as_i64() {
-        Some(count) => Ok(Some(part_of_count(count))),
-        None => Ok(None),
-    }
+    Ok(value.as_i64().map(part_of_count))
 }
 
+// A whole number retains so many characters, or deletes them where it is below 0.
 fn part_of_count(count: i64) -> Part
     ensures { result ≡ part_of_int count }
 {

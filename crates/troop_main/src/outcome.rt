@@ -1,14 +1,16 @@
 //! How a run ends.
 ghost use Rattle.std.specs.Prelude.{◌≡◌};
-ghost use Rattle.troop_main.specs.Statuses.{code_of};
+ghost use Rattle.troop_main.specs.Outcome.{code_of};
 
 use troop_ports::Status;
 
-/// How a run of a script ends.
+/// How a run of the program ends.
 #[derive(Clone, Copy, Debug, PartialEq, Eq)]
 pub enum Outcome {
     /// The whole script was played, and all that it prints was written.
     Done,
+    /// The words name no command.
+    Usage,
     /// Memory was wanting.
     Memory,
     /// The input counted a fault.
@@ -28,6 +30,7 @@ impl Outcome {
     {
         let code = match self {
             Outcome::Done => 0,
+            Outcome::Usage => 2,
             Outcome::Memory => 3,
             Outcome::ReadFault => 4,
             Outcome::WriteFault => 5,

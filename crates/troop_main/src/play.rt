@@ -1,9 +1,9 @@
 //! A script, from its bytes to what it prints.
-ghost use Rattle.std.specs.Prelude.{◌≡◌, ℕ, ◌++◌, Some, None, false, true, IfOk, OnOk};
+ghost use Rattle.std.specs.Prelude.{◌≡◌, ℕ, [], ◌++◌, Some, None, false, true, IfOk, OnOk};
 ghost use Rattle.troop_main.specs.declared.play.PlayError.TheVariants.{Memory};
 ghost use Rattle.troop_main.specs.Lines.{lines};
 ghost use Rattle.troop_main.specs.Grammar.{meaning_of};
-ghost use Rattle.troop_main.specs.Script.{after_step, shown_step, after_meaning, shown_meaning, is_unbuilt, first_unbuilt, output};
+ghost use Rattle.troop_main.specs.Play.{after_step, shown_step, onto_steps, steps_of, world_from, shown_from, is_unbuilt, first_unbuilt, output};
 
 use crate::grammar::{Meaning, Step, read_line};
 use crate::lines::first_line;
@@ -42,7 +42,7 @@ impl<T: Drop> From<AllocFailed<T>> for PlayError {
 
 /// All that is printed for a script, or the first line that isn't built.
 pub fn play(alloc: Global, bytes: &[u8]) -> Result<Vec<u8>, PlayError>
-    ensures output { IfOk result (λ text. text.items ≡ output (lines bytes.now)) }
+    ensures output { IfOk result (λ text. text.items ≡ output (steps_of (lines bytes.now))) }
     ensures built { OnOk result (first_unbuilt 1 (lines bytes.now) ≡ None) }
     ensures unbuilt { (n : ℕ) → result ≡ Err (PlayError.Unbuilt n)
         → first_unbuilt 1 (lines bytes.now) ≡ Some n }
@@ -70,9 +70,9 @@ fn play_line(
     desk: &mut Desk,
     shown: &mut Vec<u8>,
 ) -> Result<(), PlayError>
-    ensures log { OnOk result (desk.new ≡ after_meaning desk.old (meaning_of line.now)) }
+    ensures log { OnOk result (desk.new ≡ world_from desk.old (onto_steps number (meaning_of line.now) [])) }
     ensures shown { OnOk result (shown.new.items
-        ≡ shown.old.items ++ shown_meaning desk.old (meaning_of line.now)) }
+        ≡ shown.old.items ++ shown_from desk.old (onto_steps number (meaning_of line.now) [])) }
     ensures built { OnOk result (is_unbuilt (meaning_of line.now) ≡ false) }
     ensures unbuilt { (n : ℕ) → result ≡ Err (PlayError.Unbuilt n)
         → (n ≡ number) × (is_unbuilt (meaning_of line.now) ≡ true) }
@@ -95,8 +95,8 @@ fn play_step(
     ensures shown { OnOk result (shown.new.items ≡ shown.old.items ++ shown_step desk.old step) }
 {
     let reply = match step {
-        Step::Guest { name, lang } => desk.serve(SEAT, 0, &Call::Join { name, lang })?,
-        Step::Call { who, call } => desk.serve(SEAT, who, &call)?,
+        Step::Guest { name, lang } => desk.serve(SEAT, 0, 0, &Call::Join { name, lang })?,
+        Step::Call { who, num, call } => desk.serve(SEAT, who, num, &call)?,
     };
     shown.extend_from_slice(&print_reply(alloc, reply)?)
 }

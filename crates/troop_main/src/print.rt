@@ -4,7 +4,7 @@ ghost use Rattle.serde_json.specs.Data.{array};
 ghost use Rattle.serde_json.specs.Written.{has_float};
 ghost use Rattle.serde_json.specs.View.{view, items_of};
 ghost use Rattle.log_model.specs.Log.{doc};
-ghost use Rattle.troop_main.specs.Printed.{line_of, run_data, document_data, server_line, member_data, ahead_data, base_data, crowded_data, reply_line};
+ghost use Rattle.troop_main.specs.Print.{line_of, run_data, document_data, server_line, kept_data, clash_data, member_data, ahead_data, base_data, crowded_data, reply_line};
 
 use author_marks::Run;
 use ot_text::Text;
@@ -30,6 +30,8 @@ pub fn print_reply(alloc: Global, reply: Reply) -> Result<Vec<u8>, AllocError>
 {
     match reply {
         Reply::Placed { .. } => Ok(Vec::new(alloc)),
+        Reply::Kept { at, who } => print_value(alloc, &kept_value(alloc, at, who)?),
+        Reply::Clash { num, at } => print_value(alloc, &clash_value(alloc, num, at)?),
         Reply::NotMember { who } => print_value(alloc, &member_value(alloc, who)?),
         Reply::Ahead { seen, length } => print_value(alloc, &ahead_value(alloc, seen, length)?),
         Reply::BadBase { want, got } => print_value(alloc, &base_value(alloc, want, got)?),
@@ -37,30 +39,49 @@ pub fn print_reply(alloc: Global, reply: Reply) -> Result<Vec<u8>, AllocError>
     }
 }
 
+// The call stands since an earlier time.
+fn kept_value(alloc: Global, at: u64, who: u32) -> Result<Value, AllocError>
+    ensures { IfOk result (λ v. view v ≡ kept_data at who) }
+{
+    json!(in alloc; {"at": at, "kept": true, "who": who})
+}
+
+// Another call stands under the number.
+fn clash_value(alloc: Global, num: u64, at: u64) -> Result<Value, AllocError>
+    ensures { IfOk result (λ v. view v ≡ clash_data num at) }
+{
+    json!(in alloc; {"at": at, "no": "clash", "num": num})
+}
+
+// The performer is no member.
 fn member_value(alloc: Global, who: u32) -> Result<Value, AllocError>
     ensures { IfOk result (λ v. view v ≡ member_data who) }
 {
     json!(in alloc; {"no": "member", "who": who})
 }
 
+// The call has seen more rows than there are.
 fn ahead_value(alloc: Global, seen: u64, length: u64) -> Result<Value, AllocError>
     ensures { IfOk result (λ v. view v ≡ ahead_data seen length) }
 {
     json!(in alloc; {"length": length, "no": "ahead", "seen": seen})
 }
 
+// The operation has another base.
 fn base_value(alloc: Global, want: u64, got: u64) -> Result<Value, AllocError>
     ensures { IfOk result (λ v. view v ≡ base_data want got) }
 {
     json!(in alloc; {"got": got, "no": "base", "want": want})
 }
 
+// The log takes no more joins.
 fn crowded_value(alloc: Global, joins: u64) -> Result<Value, AllocError>
     ensures { IfOk result (λ v. view v ≡ crowded_data joins) }
 {
     json!(in alloc; {"joins": joins, "no": "crowded"})
 }
 
+// How many entries the log has, and the marks and the text of its document.
 fn server_value(
     alloc: Global,
     entries: u64,
@@ -83,6 +104,7 @@ fn runs_value(alloc: Global, runs: &[Run]) -> Result<Value, AllocError>
     Ok(Value::Array(items))
 }
 
+// A run of marks as a pair.
 fn run_value(alloc: Global, run: &Run) -> Result<Value, AllocError>
     ensures { IfOk result (λ v. view v ≡ run_data run.now) }
 {

@@ -1,19 +1,34 @@
 //! The line on standard error, which takes no memory.
 ghost use Rattle.std.specs.Prelude.{◌≡◌, ◌++◌, codes, decimal, false};
-ghost use Rattle.troop_main.specs.Ports.{Reported};
-ghost use Rattle.troop_main.specs.Statuses.{error_line};
+ghost use Rattle.troop_main.specs.Ports.{port_of, Reported};
+ghost use Rattle.troop_main.specs.Outcome.{code_of, error_line};
 
 use crate::Outcome;
 use itoa::Buffer;
-use troop_ports::{Sink, Written, write_all};
+use troop_ports::{Sink, Status, Written, write_all};
 
-/// Writes the line of an outcome.
-pub fn report<E: Sink>(outcome: Outcome, err: &mut E)
+impl Outcome {
+    /// Writes its line on the error stream, and answers its status. A fault there changes no status.
+    ///
+    /// It takes no memory.
+    pub fn report<E: Sink>(self, err: &mut E) -> Status
+        requires { E.closed err.old ≡ false }
+        ensures status { result.code ≡ code_of self }
+        ensures line { Reported (port_of (E.taken err.old) (E.taken err.new) (E.faults err.old) (E.faults err.new)) (error_line self) }
+    {
+        report_line(self, err);
+        self.status()
+    }
+}
+
+// Writes the line of an outcome.
+fn report_line<E: Sink>(outcome: Outcome, err: &mut E)
     requires { E.closed err.old ≡ false }
-    ensures { Reported (record { before = E.taken err.old; after = E.taken err.new; faults_before = E.faults err.old; faults_after = E.faults err.new }) (error_line outcome) }
+    ensures { Reported (port_of (E.taken err.old) (E.taken err.new) (E.faults err.old) (E.faults err.new)) (error_line outcome) }
 {
     match outcome {
         Outcome::Done => {}
+        Outcome::Usage => write_line(err, b"troop: usage\n"),
         Outcome::Memory => write_line(err, b"troop: out of memory\n"),
         Outcome::ReadFault => write_line(err, b"troop: read fault\n"),
         Outcome::WriteFault => write_line(err, b"troop: write fault\n"),
@@ -22,17 +37,18 @@ pub fn report<E: Sink>(outcome: Outcome, err: &mut E)
     }
 }
 
-/// Writes a line, or as much of it as is taken before a fault.
-pub fn write_line<E: Sink>(err: &mut E, line: &[u8])
+// Writes a line, or as much of it as is taken before a fault.
+fn write_line<E: Sink>(err: &mut E, line: &[u8])
     requires { E.closed err.old ≡ false }
-    ensures { Reported (record { before = E.taken err.old; after = E.taken err.new; faults_before = E.faults err.old; faults_after = E.faults err.new }) line.now }
+    ensures { Reported (port_of (E.taken err.old) (E.taken err.new) (E.faults err.old) (E.faults err.new)) line.now }
 {
     let _ = write_all(err, line);
 }
 
+// Writes the line of the outcome that names a line.
 fn report_unbuilt<E: Sink>(line: u64, err: &mut E)
     requires { E.closed err.old ≡ false }
-    ensures { Reported (record { before = E.taken err.old; after = E.taken err.new; faults_before = E.faults err.old; faults_after = E.faults err.new })
+    ensures { Reported (port_of (E.taken err.old) (E.taken err.new) (E.faults err.old) (E.faults err.new))
         (codes "troop: line " ++ (decimal line ++ codes " isn't built\n")) }
 {
     match write_all(err, b"troop: line ") {
@@ -41,9 +57,10 @@ fn report_unbuilt<E: Sink>(line: u64, err: &mut E)
     }
 }
 
+// Writes that line from its number on.
 fn report_number<E: Sink>(line: u64, err: &mut E)
     requires { E.closed err.old ≡ false }
-    ensures { Reported (record { before = E.taken err.old; after = E.taken err.new; faults_before = E.faults err.old; faults_after = E.faults err.new })
+    ensures { Reported (port_of (E.taken err.old) (E.taken err.new) (E.faults err.old) (E.faults err.new))
         (decimal line ++ codes " isn't built\n") }
 {
     let mut buffer = Buffer::new();
@@ -51,9 +68,10 @@ fn report_number<E: Sink>(line: u64, err: &mut E)
     report_digits(digits.as_bytes(), err);
 }
 
+// Writes these digits, and the end of that line.
 fn report_digits<E: Sink>(digits: &[u8], err: &mut E)
     requires { E.closed err.old ≡ false }
-    ensures { Reported (record { before = E.taken err.old; after = E.taken err.new; faults_before = E.faults err.old; faults_after = E.faults err.new })
+    ensures { Reported (port_of (E.taken err.old) (E.taken err.new) (E.faults err.old) (E.faults err.new))
         (digits.now ++ codes " isn't built\n") }
 {
     match write_all(err, digits) {

@@ -1,7 +1,7 @@
 //! The calls that a script's requests ask.
 ghost use Rattle.std.specs.Prelude.{◌≡◌, IfOk};
 ghost use Rattle.serde_json.specs.View.{view};
-ghost use Rattle.troop_main.specs.Grammar.{seen_of, op_field, text_field, edit_of, eval_of, reset_of, call_of_word, call_of};
+ghost use Rattle.troop_main.specs.Requests.{seen_of, num_of, op_field, text_field, edit_of, eval_of, reset_of, call_of_word, call_of};
 
 use crate::operations::read_op;
 use crate::values::{read_count, read_text};
@@ -27,61 +27,63 @@ pub fn read_call(alloc: Global, request: &Value) -> Result<Option<Call>, AllocEr
 fn read_call_of(alloc: Global, word: &str, request: &Value) -> Result<Option<Call>, AllocError>
     ensures { IfOk result (λ call. call ≡ call_of_word word.now (view request.now)) }
 {
-    if word == "leave" {
-        Ok(Some(Call::Leave))
-    } else if word == "edit" {
-        read_edit(alloc, request)
-    } else if word == "eval" {
-        read_eval(alloc, request)
-    } else if word == "reset" {
-        read_reset(alloc, request)
-    } else {
-        Ok(None)
+    match word {
+        "leave" => Ok(Some(Call::Leave)),
+        "edit" => read_edit(alloc, request),
+        "eval" => read_eval(alloc, request),
+        "reset" => read_reset(alloc, request),
+        _ => Ok(None),
     }
 }
 
+// An edit, by the keys `seen` and `op`.
 fn read_edit(alloc: Global, request: &Value) -> Result<Option<Call>, AllocError>
     ensures { IfOk result (λ call. call ≡ edit_of (view request.now)) }
 {
     let Some(seen) = read_seen(request) else {
         return Ok(None);
     };
-    match read_op_field(alloc, request)? {
-        Some(op) => Ok(Some(Call::Edit { seen, op })),
-        None => Ok(None),
-    }
+    Ok(read_op_field(alloc, request)?.map(|op| Call::Edit { seen, op }))
 }
 
+// An evaluation, by the keys `seen` and `text`.
 fn read_eval(alloc: Global, request: &Value) -> Result<Option<Call>, AllocError>
     ensures { IfOk result (λ call. call ≡ eval_of (view request.now)) }
 {
     let Some(seen) = read_seen(request) else {
         return Ok(None);
     };
-    match read_text_field(alloc, request)? {
-        Some(text) => Ok(Some(Call::Eval { seen, text })),
-        None => Ok(None),
-    }
+    Ok(read_text_field(alloc, request)?.map(|text| Call::Eval { seen, text }))
 }
 
+// A reset, by the keys `seen` and `text`.
 fn read_reset(alloc: Global, request: &Value) -> Result<Option<Call>, AllocError>
     ensures { IfOk result (λ call. call ≡ reset_of (view request.now)) }
 {
     let Some(seen) = read_seen(request) else {
         return Ok(None);
     };
-    match read_text_field(alloc, request)? {
-        Some(text) => Ok(Some(Call::Reset { seen, text })),
-        None => Ok(None),
-    }
+    Ok(read_text_field(alloc, request)?.map(|text| Call::Reset { seen, text }))
 }
 
+// How many rows its maker had seen.
 fn read_seen(request: &Value) -> Option<u64>
     ensures { result ≡ seen_of (view request.now) }
 {
     read_count(request.get("seen")?)
 }
 
+/// The number under which a request is asked; 0 is none, and stands for a key that isn't there.
+pub fn read_num(request: &Value) -> Option<u64>
+    ensures { result ≡ num_of (view request.now) }
+{
+    match request.get("num") {
+        Some(value) => read_count(value),
+        None => Some(0),
+    }
+}
+
+// The operation of a request.
 fn read_op_field(alloc: Global, request: &Value) -> Result<Option<Op>, AllocError>
     ensures { IfOk result (λ op. op ≡ op_field (view request.now)) }
 {
@@ -91,6 +93,7 @@ fn read_op_field(alloc: Global, request: &Value) -> Result<Option<Op>, AllocErro
     }
 }
 
+// The text of a request.
 fn read_text_field(alloc: Global, request: &Value) -> Result<Option<Text>, AllocError>
     ensures { IfOk result (λ text. text ≡ text_field (view request.now)) }
 {

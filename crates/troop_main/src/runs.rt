@@ -1,18 +1,18 @@
 //! The run of a script from an input to an output.
 ghost use Rattle.std.specs.Prelude.{◌≡◌, false};
-ghost use Rattle.troop_main.specs.Statuses.{Replays};
-ghost use Rattle.troop_main.specs.Runs.{Runs, PlaysOut};
+ghost use Rattle.troop_main.specs.Ports.{port_of};
+ghost use Rattle.troop_main.specs.Runs.{Replays, IsTooMuchExactly, IsUnbuiltExactly, Runs, PlaysOut};
 
 use crate::Outcome;
 use crate::input::{Input, read_input};
 use crate::play::{PlayError, play};
-use crate::report::report;
 use std::alloc::Global;
 use troop_ports::{Sink, Source, Status, Written, write_all};
 
 /// Plays the script that the input gives, writes what it prints, and reports how the run ended.
 ///
-/// The whole input is read first. A fault of `err` changes no status.
+/// The whole input is read first. A fault of `err` changes no status. `table` is the table of statuses, and beside it 10 and 12
+/// are exact but for 3, which stands for want of memory wherever that comes.
 pub fn replay<I: Source, O: Sink, E: Sink>(
     alloc: Global,
     input: &mut I,
@@ -22,14 +22,17 @@ pub fn replay<I: Source, O: Sink, E: Sink>(
     requires input_open { I.closed input.old ≡ false }
     requires out_open { O.closed out.old ≡ false }
     requires err_open { E.closed err.old ≡ false }
-    ensures { Replays result.code
-        (record { before = I.left input.old; after = I.left input.new; faults_before = I.faults input.old; faults_after = I.faults input.new })
-        (record { before = O.taken out.old; after = O.taken out.new; faults_before = O.faults out.old; faults_after = O.faults out.new })
-        (record { before = E.taken err.old; after = E.taken err.new; faults_before = E.faults err.old; faults_after = E.faults err.new }) }
+    ensures table { Replays result.code
+        (port_of (I.left input.old) (I.left input.new) (I.faults input.old) (I.faults input.new))
+        (port_of (O.taken out.old) (O.taken out.new) (O.faults out.old) (O.faults out.new))
+        (port_of (E.taken err.old) (E.taken err.new) (E.faults err.old) (E.faults err.new)) }
+    ensures too_much { IsTooMuchExactly result.code
+        (port_of (I.left input.old) (I.left input.new) (I.faults input.old) (I.faults input.new)) }
+    ensures unbuilt { IsUnbuiltExactly result.code
+        (port_of (I.left input.old) (I.left input.new) (I.faults input.old) (I.faults input.new))
+        (port_of (E.taken err.old) (E.taken err.new) (E.faults err.old) (E.faults err.new)) }
 {
-    let outcome = run(alloc, input, out);
-    report(outcome, err);
-    outcome.status()
+    run(alloc, input, out).report(err)
 }
 
 // Plays the script, and writes what it prints.
@@ -37,8 +40,8 @@ fn run<I: Source, O: Sink>(alloc: Global, input: &mut I, out: &mut O) -> Outcome
     requires input_open { I.closed input.old ≡ false }
     requires out_open { O.closed out.old ≡ false }
     ensures { Runs result
-        (record { before = I.left input.old; after = I.left input.new; faults_before = I.faults input.old; faults_after = I.faults input.new })
-        (record { before = O.taken out.old; after = O.taken out.new; faults_before = O.faults out.old; faults_after = O.faults out.new }) }
+        (port_of (I.left input.old) (I.left input.new) (I.faults input.old) (I.faults input.new))
+        (port_of (O.taken out.old) (O.taken out.new) (O.faults out.old) (O.faults out.new)) }
 {
     match read_input(alloc, input) {
         Input::Whole(bytes) => play_out(alloc, &bytes, out),
@@ -52,7 +55,7 @@ fn run<I: Source, O: Sink>(alloc: Global, input: &mut I, out: &mut O) -> Outcome
 fn play_out<O: Sink>(alloc: Global, bytes: &[u8], out: &mut O) -> Outcome
     requires { O.closed out.old ≡ false }
     ensures { PlaysOut result bytes.now
-        (record { before = O.taken out.old; after = O.taken out.new; faults_before = O.faults out.old; faults_after = O.faults out.new }) }
+        (port_of (O.taken out.old) (O.taken out.new) (O.faults out.old) (O.faults out.new)) }
 {
     match play(alloc, bytes) {
         Ok(text) => match write_all(out, &text) {

@@ -1,9 +1,11 @@
 //! The top call.
-ghost use Rattle.std.specs.Prelude.{◌≡◌, ◌↔◌, Some, None, false, map, string_bytes, codes};
-ghost use Rattle.troop_main.specs.Ports.{Reported};
-ghost use Rattle.troop_main.specs.Statuses.{command_of, Replays};
+ghost use Rattle.std.specs.Prelude.{◌≡◌, ◌↔◌, Some, None, false, map, string_bytes};
+ghost use Rattle.troop_main.specs.Ports.{port_of, Reported};
+ghost use Rattle.troop_main.specs.Words.{command_of};
+ghost use Rattle.troop_main.specs.Outcome.{error_line};
+ghost use Rattle.troop_main.specs.Runs.{Replays, IsTooMuchExactly, IsUnbuiltExactly};
 
-use crate::report::write_line;
+use crate::Outcome;
 use crate::runs::replay;
 use crate::words::{Command, read_command};
 use std::alloc::Global;
@@ -11,7 +13,8 @@ use troop_ports::{Sink, Source, Status};
 
 /// Does what the words say. They are those behind the program's name.
 ///
-/// Words that name no command give status 2 and one line on `err`, and touch neither `input` nor `out`.
+/// Words that name no command give status 2 and one line on `err`, and touch neither `input` nor `out`. The statuses of the word
+/// `replay` are those of the call `replay`.
 pub fn troop<I: Source, O: Sink, E: Sink>(
     alloc: Global,
     words: &[String],
@@ -27,18 +30,20 @@ pub fn troop<I: Source, O: Sink, E: Sink>(
     ensures usage_input { result.code ≡ 2 → input.new ≡ input.old }
     ensures usage_out { result.code ≡ 2 → out.new ≡ out.old }
     ensures usage_line { result.code ≡ 2 →
-        Reported (record { before = E.taken err.old; after = E.taken err.new; faults_before = E.faults err.old; faults_after = E.faults err.new }) (codes "troop: usage\n") }
+        Reported (port_of (E.taken err.old) (E.taken err.new) (E.faults err.old) (E.faults err.new)) (error_line Outcome.Usage) }
 
     ensures replay { command_of (map string_bytes words.now) ≡ Some Command.Replay → Replays result.code
-        (record { before = I.left input.old; after = I.left input.new; faults_before = I.faults input.old; faults_after = I.faults input.new })
-        (record { before = O.taken out.old; after = O.taken out.new; faults_before = O.faults out.old; faults_after = O.faults out.new })
-        (record { before = E.taken err.old; after = E.taken err.new; faults_before = E.faults err.old; faults_after = E.faults err.new }) }
+        (port_of (I.left input.old) (I.left input.new) (I.faults input.old) (I.faults input.new))
+        (port_of (O.taken out.old) (O.taken out.new) (O.faults out.old) (O.faults out.new))
+        (port_of (E.taken err.old) (E.taken err.new) (E.faults err.old) (E.faults err.new)) }
+    ensures too_much { command_of (map string_bytes words.now) ≡ Some Command.Replay → IsTooMuchExactly result.code
+        (port_of (I.left input.old) (I.left input.new) (I.faults input.old) (I.faults input.new)) }
+    ensures unbuilt { command_of (map string_bytes words.now) ≡ Some Command.Replay → IsUnbuiltExactly result.code
+        (port_of (I.left input.old) (I.left input.new) (I.faults input.old) (I.faults input.new))
+        (port_of (E.taken err.old) (E.taken err.new) (E.faults err.old) (E.faults err.new)) }
 {
     match read_command(words) {
         Some(Command::Replay) => replay(alloc, input, out, err),
-        None => {
-            write_line(err, b"troop: usage\n");
-            Status { code: 2 }
-        }
+        None => Outcome::Usage.report(err),
     }
 }

@@ -18,24 +18,14 @@ const LONGEST_NAME: u64 = 32;
 pub fn read_count(value: &Value) -> Option<u64>
     ensures { result ≡ count_of (view value.now) }
 {
-    let count = value.as_u64()?;
-    if count <= MOST_COUNT {
-        Some(count)
-    } else {
-        None
-    }
+    value.as_u64().filter(|count| *count <= MOST_COUNT)
 }
 
 /// The number of a performer.
 pub fn read_who(value: &Value) -> Option<u32>
     ensures { result ≡ who_of (view value.now) }
 {
-    let who = value.as_u64()?;
-    if who <= u64::from(u32::MAX) {
-        Some(who as u32)
-    } else {
-        None
-    }
+    u32::try_from(value.as_u64()?).ok()
 }
 
 /// A string.
@@ -67,12 +57,9 @@ pub fn read_name(alloc: Global, value: &Value) -> Result<Option<Text>, AllocErro
 pub fn read_lang(value: &Value) -> Option<Lang>
     ensures { result ≡ lang_of (view value.now) }
 {
-    let string = value.as_str()?;
-    if string == "lines" {
-        Some(Lang::Lines)
-    } else if string == "ghci" {
-        Some(Lang::Ghci)
-    } else {
-        None
+    match value.as_str()? {
+        "lines" => Some(Lang::Lines),
+        "ghci" => Some(Lang::Ghci),
+        _ => None,
     }
 }

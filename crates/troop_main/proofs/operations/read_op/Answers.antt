@@ -2,7 +2,8 @@ use Rattle.std.proofs.Common.{sym, ap, ◌∙◌, map}
 use Rattle.std.specs.Prelude.{option_and_then}
 use Rattle.std.proofs.lemmas.Result.{IfOk-weaker}
 use Rattle.serde_json.specs.View.{view}
-use Rattle.troop_main.specs.Values.{elements, op_of_list}
+use Rattle.troop_main.specs.Values.{elements}
+use Rattle.troop_main.specs.Operations.{op_of_list}
 use Rattle.troop_main.proofs.PartLists.{elements-items}
 use Rattle.troop_main.proofs.operations.read_op.Goals as goal
 

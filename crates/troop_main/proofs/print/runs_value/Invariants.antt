@@ -1,6 +1,6 @@
 use Rattle.std.proofs.Common.{◌≡◌, map, take}
 use Rattle.serde_json.specs.View.{view}
-use Rattle.troop_main.specs.Printed.{run_data}
+use Rattle.troop_main.specs.Print.{run_data}
 use Rattle.troop_main.proofs.print.runs_value.Given as goal
 
 -- the values of the runs so far

@@ -1,6 +1,6 @@
 -- The printed lines: serde_json's compact text, with the keys of each object in byte order, and a line feed.
-use Rattle.std.specs.Prelude.{ℕ, List, [], ◌∷◌, ◌++◌, map, codes, encode_utf8_all}
-use Rattle.serde_json.specs.Data.{Data, number, unsigned, string, array, object, item, no_items, member, no_members}
+use Rattle.std.specs.Prelude.{ℕ, true, List, [], ◌∷◌, ◌++◌, map, codes, encode_utf8_all}
+use Rattle.serde_json.specs.Data.{Data, boolean, number, unsigned, string, array, object, item, no_items, member, no_members}
 use Rattle.serde_json.specs.View.{items_of}
 use Rattle.serde_json.specs.Written.{compact_text}
 use Rattle.ot_text.specs.Marked.{Marked, text_of, marks_of, runs_of}
@@ -33,6 +33,12 @@ server_data entries m = document_data entries (runs_data m) (encode_utf8_all (te
 abbrev pub server_line : ℕ → Marked → List ℕ
 server_line entries m = line_of (server_data entries m)
 
+abbrev pub kept_data : ℕ → ℕ → Data
+kept_data at who = object (member (codes "at") (number (unsigned at)) (member (codes "kept") (boolean true) (member (codes "who") (number (unsigned who)) no_members)))
+
+abbrev pub clash_data : ℕ → ℕ → Data
+clash_data num at = object (member (codes "at") (number (unsigned at)) (member (codes "no") (string (codes "clash")) (member (codes "num") (number (unsigned num)) no_members)))
+
 abbrev pub member_data : ℕ → Data
 member_data who = object (member (codes "no") (string (codes "member")) (member (codes "who") (number (unsigned who)) no_members))
 
@@ -48,6 +54,8 @@ crowded_data joins = object (member (codes "joins") (number (unsigned joins)) (m
 -- what a step prints for a reply: nothing where the call was placed
 abbrev pub reply_line : Reply → List ℕ
 reply_line (reply.Placed at who) = []
+reply_line (reply.Kept at who) = line_of (kept_data at who)
+reply_line (reply.Clash num at) = line_of (clash_data num at)
 reply_line (reply.NotMember who) = line_of (member_data who)
 reply_line (reply.Ahead seen n) = line_of (ahead_data seen n)
 reply_line (reply.BadBase want got) = line_of (base_data want got)

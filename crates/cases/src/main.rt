@@ -1,0 +1,46 @@
+//! Plays each case file of the folder that it runs in through `replay`, in memory, and prints a line for each.
+//!
+//! It fails where a case printed something else than its file says.
+#![tactic(auto)]
+
+mod case;
+mod sign;
+mod verdict;
+
+use anyhow::{Context, Result, bail};
+use case::Case;
+use std::fs;
+use verdict::judge;
+
+fn main(rt: HostRuntime) -> Result<()> {
+    let mut failed = 0u64;
+    for name in case_names(&rt)? {
+        let file = fs::read(&rt, name.as_str()).context("reading a case")?;
+        let verdict = match Case::read(rt.alloc(), &file)? {
+            Some(case) => judge(rt.alloc(), &case)?,
+            None => verdict::unreadable(rt.alloc())?,
+        };
+        if !verdict.holds {
+            failed = failed.saturating_add(1);
+        }
+        let told = verdict.told.as_str();
+        println!(rt; "{name}: {told}")?;
+    }
+    if failed > 0 {
+        bail!("{failed} cases failed");
+    }
+    Ok(())
+}
+
+// The names of the case files, in order.
+fn case_names(rt: &HostRuntime) -> Result<Vec<String>> {
+    let mut names = Vec::new(rt.alloc());
+    for entry in fs::read_dir(rt, ".")? {
+        let entry = entry?;
+        if entry.file_name().ends_with(".case") {
+            names.push(String::from_str(rt.alloc(), entry.file_name())?)?;
+        }
+    }
+    names.sort()?;
+    Ok(names)
+}
