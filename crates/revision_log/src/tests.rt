@@ -90,7 +90,15 @@ fn a_call_asked_again_is_told_its_place(rt: HostRuntime) -> Result<(), Fail> {
 fn a_leave_asked_again_is_told_its_place(rt: HostRuntime) -> Result<(), Fail> {
     let mut desk = Desk::new(rt.alloc());
     desk.serve(0, 0, 0, &join(rt.alloc(), "ann")?)?;
-    assert!(rt; is_told(&mut desk, 1, 2, &Call::Leave, Reply::Placed { at: 1, who: 1 })?);
+    assert!(rt;
+        is_told(
+            &mut desk,
+            1,
+            2,
+            &Call::Leave,
+            Reply::Placed { at: 1, who: 1 }
+        )?
+    );
     assert!(rt; is_told(&mut desk, 1, 2, &Call::Leave, Reply::Kept { at: 1, who: 1 })?);
     assert!(rt; is_told(&mut desk, 1, 3, &Call::Leave, Reply::NotMember { who: 1 })?);
     assert!(rt; is_told(&mut desk, 2, 2, &Call::Leave, Reply::NotMember { who: 2 })?);

@@ -43,17 +43,19 @@ desk c =
 pub invariant_of-self-2 : goal.invariant_of-self-2
 invariant_of-self-2 c =
     let there = leaver_stays c.self.inside.rows.items c.args.row c.self.inside.left.items c.self.invariant.0.legal c.self.invariant.0.members (rw (← c.self.view_is) at c.requires) in
-    let follows = c.follow.ensures ∙ ap (left_after c.args.row.who c.args.row.call) c.reserve-3.ensures.items in
-    (desk c, record {
-      rows = room_more c.args.row.call c.args.row.who c.self.inside.left.items c.follow.new.left.items (vec_len c.self.inside.rows) (vec_len c.push_reserved-2.new.self) c.room_for-room.result
-          (vec_capacity c.self.inside.rows) (vec_capacity c.push_reserved-2.new.self) follows there (λ other. omega (arith, c.room_for-room.ensures.others other, c.self.inside.left.ok.0))
-          (omega (arith, c.push_reserved-2.ensures.len, c.reserve-2.ensures.len)) c.self.invariant.1.rows (omega (arith, c.push_reserved-2.ensures.capacity, c.reserve-2.ensures.capacity))
-          (omega (arith, c.push_reserved-2.ensures.capacity, c.in_ok-reserve-2.ensures.ok, c.reserve-2.ensures.len));
-      lengths = room_more c.args.row.call c.args.row.who c.self.inside.left.items c.follow.new.left.items (vec_len c.self.inside.lengths) (vec_len c.push_reserved.new.self) c.room_for-room.result
-          (vec_capacity c.self.inside.lengths) (vec_capacity c.push_reserved.new.self) follows there (λ other. omega (arith, c.room_for-room.ensures.others other, c.self.inside.left.ok.0))
-          (omega (arith, c.push_reserved.ensures.len, c.reserve.ensures.len)) c.self.invariant.1.lengths (omega (arith, c.push_reserved.ensures.capacity, c.reserve.ensures.capacity))
-          (omega (arith, c.push_reserved.ensures.capacity, c.in_ok-reserve.ensures.ok, c.reserve.ensures.len));
-    })
+    let follows = c.follow.ensures ∙ ap (left_after c.args.row.who c.args.row.call) c.reserve-3.ensures.items in (
+      desk c,
+      record {
+        rows = room_more c.args.row.call c.args.row.who c.self.inside.left.items c.follow.new.left.items (vec_len c.self.inside.rows) (vec_len c.push_reserved-2.new.self) c.room_for-room.result
+            (vec_capacity c.self.inside.rows) (vec_capacity c.push_reserved-2.new.self) follows there (λ other. omega (arith, c.room_for-room.ensures.others other, c.self.inside.left.ok.0))
+            (omega (arith, c.push_reserved-2.ensures.len, c.reserve-2.ensures.len)) c.self.invariant.1.rows (omega (arith, c.push_reserved-2.ensures.capacity, c.reserve-2.ensures.capacity))
+            (omega (arith, c.push_reserved-2.ensures.capacity, c.in_ok-reserve-2.ensures.ok, c.reserve-2.ensures.len));
+        lengths = room_more c.args.row.call c.args.row.who c.self.inside.left.items c.follow.new.left.items (vec_len c.self.inside.lengths) (vec_len c.push_reserved.new.self) c.room_for-room.result
+            (vec_capacity c.self.inside.lengths) (vec_capacity c.push_reserved.new.self) follows there (λ other. omega (arith, c.room_for-room.ensures.others other, c.self.inside.left.ok.0))
+            (omega (arith, c.push_reserved.ensures.len, c.reserve.ensures.len)) c.self.invariant.1.lengths (omega (arith, c.push_reserved.ensures.capacity, c.reserve.ensures.capacity))
+            (omega (arith, c.push_reserved.ensures.capacity, c.in_ok-reserve.ensures.ok, c.reserve.ensures.len));
+      },
+    )
 
 pub returns-clause-legal : goal.returns-clause-legal
 returns-clause-legal c = (desk c).legal
