@@ -11,11 +11,16 @@ use Rattle.client_state.proofs.FitsOn.{typed_bases, told_bases, own_bases, fits_
 use Rattle.stage_state.specs.declared.act.Act.{Act}
 use Rattle.stage_state.specs.declared.act.Act.TheVariants as act
 use Rattle.stage_state.specs.Machine.{Machine, machine_from, document, standing, take_own, take_other, send_from, after_act, after_acts, CanAct, IsPlayed}
-use Rattle.stage_state.proofs.Machine.{doc_told-one_more}
+use Rattle.stage_state.specs.Staged.{Staged, acts_of, first_machine, machine, with_act, IsStagePlayed}
+use Rattle.stage_state.proofs.Machine.{acts_of-one_more, doc_told-one_more}
 
 pub played-one_more : (acts : List Act) (a : Act) (m : Machine) → IsPlayed m acts → CanAct (after_acts acts m) a → IsPlayed m (acts ++ a ∷ [])
 played-one_more [] a m played can = (can, tt)
 played-one_more (b ∷ acts) a m played can = (played.0, played-one_more acts a (after_act b m) played.1 can)
+
+-- of a stage
+pub stage_placed : (seat : ℕ) (a : Act) (s : Staged) → IsStagePlayed s → CanAct (machine s) a → IsStagePlayed (with_act seat a s)
+stage_placed seat a s played can = rw (acts_of-one_more s.acts seat a) (played-one_more (acts_of s.acts) a (first_machine s) played can)
 
 pub played_front : (xs ys : List Act) (m : Machine) → IsPlayed m (xs ++ ys) → IsPlayed m xs × IsPlayed (after_acts xs m) ys
 played_front [] ys m played = (tt, played)

@@ -10,8 +10,8 @@ use Rattle.stage_state.specs.declared.act.Act.TheVariants as act
 use Rattle.stage_state.specs.Machine.{Machine, type_op, take_entry, after_act, CanAct}
 use Rattle.stage_state.specs.Staged.{Staged, acts_of, first_machine, machine, with_act, last_acts}
 use Rattle.stage_state.specs.StageInvariant.{KeptValue, Keeps, KeepsMarks, IsStage}
-use Rattle.stage_state.proofs.Machine.{acts_of-one_more, machine-with_act, machine-own, act_follows, acts_follow}
-use Rattle.stage_state.proofs.IsPlayed.{played-one_more}
+use Rattle.stage_state.proofs.Machine.{machine-with_act, machine-own, act_follows, acts_follow}
+use Rattle.stage_state.proofs.IsPlayed.{stage_placed}
 use Rattle.stage_state.proofs.Keeps.{held_is, client_is, closed_is, keeps_finished, keeps_halted}
 
 -- an act that can be placed leaves a stage, where what is kept then is what the act makes of the machine
@@ -22,7 +22,7 @@ act_stage seat a s old new acts after room left is can does keeps one_more fit =
     let keeps' : Keeps new (after_act a (machine s)) = subst (λ (m : Machine). Keeps new m) (sym does) keeps in
     let own : new.client.own ≡ s.own = keeps'.own ∙ (act_follows a (machine s)).own ∙ machine-own s in
     let placed : IsStage (with_act seat a s) new left = record {
-      played = rw (acts_of-one_more s.acts seat a) (played-one_more (acts_of s.acts) a (first_machine s) is.played can);
+      played = stage_placed seat a s is.played can;
       keeps = subst (λ (m : Machine). Keeps new m) (sym (machine-with_act seat a s)) keeps';
       last_fit = fit;
       near = is.near;

@@ -72,31 +72,35 @@ impl Kept {
         &self.client
     }
 
+    // Whether nothing more is to be asked.
     pub(crate) fn is_finishing(&self) -> bool
         ensures { result ≡ self.now.finishing }
     {
         self.finishing
     }
 
+    // Whether nothing more is to go out.
     pub(crate) fn is_halted(&self) -> bool
         ensures { result ≡ self.now.halted }
     {
         self.halted
     }
 
+    // Whether the own leave was taken.
     pub(crate) fn is_gone(&self) -> bool
         ensures { result ≡ self.now.gone }
     {
         self.gone
     }
 
+    // Whether the leave went out.
     pub(crate) fn leave_sent(&self) -> bool
         ensures { result ≡ self.now.leave_sent }
     {
         self.leave_sent
     }
 
-    // Whether nothing more is asked.
+    // Whether nothing more can be asked.
     pub(crate) fn is_closed(&self) -> bool
         ensures { result ≡ (self.now.finishing || (self.now.halted || self.now.gone)) }
     {
