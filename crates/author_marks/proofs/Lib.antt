@@ -1,4 +1,3 @@
-pub mod Rewritten
 pub mod Room
 pub mod RunsMade
 pub mod RunsOf

@@ -6,7 +6,6 @@
 
 mod laws;
 mod marks;
-mod rewrite;
 mod run;
 
 pub use laws::runs_law;

@@ -7,9 +7,8 @@ ghost use Rattle.author_marks.specs.Authorship.{mark_by};
 ghost use Rattle.author_marks.specs.Runs.{run_of};
 
 use crate::Run;
-use crate::rewrite::rewrite;
 use crate::run::push_mark;
-use ot_text::Op;
+use ot_text::{NewElement, Op, rewrite};
 use std::alloc::{AllocError, Global};
 use std::marker::Model;
 use std::mem::swap;
@@ -21,6 +20,21 @@ pub struct Marks {
     marks: Vec<u32>,
     // Takes the marks that the next operation makes, in the room that was made for them.
     spare: Vec<u32>,
+}
+
+// A performer, whose number marks each new character.
+#[derive(Clone, Copy)]
+struct By {
+    // The performer's number.
+    who: u32,
+}
+
+impl NewElement<u32> for By {
+    ghost element_of = { λ by. mark_by by.who };
+
+    fn make(&self, _character: char) -> u32 {
+        self.who
+    }
 }
 
 impl Model for Marks {
@@ -80,7 +94,7 @@ impl Marks {
         requires ready { IsReady op.now self.old.ready }
         ensures { self.new.marks ≡ effect (mark_by who) op.now self.old.marks }
     {
-        rewrite(&mut self.spare, &self.marks, op, who);
+        rewrite(&mut self.spare, &self.marks, op, &By { who });
         swap(&mut self.marks, &mut self.spare);
     }
 

@@ -12,6 +12,7 @@ pub mod Kept
 pub mod KeptPlaces
 pub mod Normal
 pub mod Payable
+pub mod Rewritten
 pub mod Sames
 pub mod Sums
 pub mod Then

@@ -15,6 +15,7 @@ mod laws;
 mod op;
 mod part;
 mod parts;
+mod rewriting;
 mod text;
 
 pub use builder::OpBuilder;
@@ -25,6 +26,7 @@ pub use laws::{
 };
 pub use op::{MAX_LEN, Op};
 pub use part::Part;
+pub use rewriting::{NewElement, rewrite};
 pub use text::Text;
 
 #[cfg(test)]

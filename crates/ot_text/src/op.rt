@@ -16,7 +16,9 @@ pub const MAX_LEN: u64 = 1 << 62;
 /// A normal operation: what it does to a text of the length of its base.
 #[derive(Debug, Drop)]
 pub struct Op {
+    // The normal list of its parts.
     pub(crate) parts: Vec<Part>,
+    // Their base, their target and how many characters they put in.
     pub(crate) base: u64,
     pub(crate) target: u64,
     pub(crate) inserted: u64,

@@ -1,5 +1,5 @@
 //! The worked examples.
-use crate::{ApplyError, MAX_LEN, Op, OpBuilder, Part, Text, apply, effect_law};
+use crate::{ApplyError, Op, OpBuilder, Part, Text, apply, effect_law};
 use std::alloc::{AllocError, Global};
 use std::process::Abort;
 use std::test::Fail;
@@ -23,19 +23,15 @@ fn op(alloc: Global, parts: &[Spelled]) -> Result<Op, AllocError> {
 }
 
 fn put(alloc: Global, builder: &mut OpBuilder, part: &Spelled) -> Result<(), AllocError> {
-    let base_left = MAX_LEN - builder.base();
-    let target_left = MAX_LEN - builder.target();
-    match part {
-        Keep(count) if *count <= base_left && *count <= target_left => builder.retain(*count),
-        Put(string) => {
-            let text = Text::of(alloc, string)?;
-            if text.len() > target_left {
-                return Err(AllocError);
-            }
-            builder.insert(&text)
-        }
-        Cut(count) if *count <= base_left => builder.delete(*count),
-        _ => Err(AllocError),
+    let part = match part {
+        Keep(count) => Part::Retain(*count),
+        Put(string) => Part::Insert(Text::of(alloc, string)?),
+        Cut(count) => Part::Delete(*count),
+    };
+    if builder.try_put(&part)? {
+        Ok(())
+    } else {
+        Err(AllocError)
     }
 }
 

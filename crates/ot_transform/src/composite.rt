@@ -29,7 +29,9 @@ pub fn compose(alloc: Global, a: &Op, b: &Op) -> Result<Op, AllocError>
 // What is made so far, and what is left of the second operation.
 #[derive(Drop)]
 struct Composer<'a> {
+    // The composition of what was gone over so far.
     made: OpBuilder,
+    // What is left of the second operation's parts.
     rest: Rest<'a>,
 }
 

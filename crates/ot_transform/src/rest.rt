@@ -10,6 +10,7 @@ use std::marker::Model;
 // Parts in normal form, without the first places of the first part.
 #[derive(Drop)]
 pub(crate) struct Rest<'a> {
+    // The parts, the first of them as it was.
     parts: &'a [Part],
     // How many places of the first part are used up: fewer than it has.
     used: u64,
@@ -30,6 +31,7 @@ impl<'a> Model for Rest<'a> {
 }
 
 impl<'a> Rest<'a> {
+    // All of the parts.
     pub(crate) fn new(parts: &'a [Part]) -> Rest<'a>
         requires { IsNormal parts.now }
         ensures { result ≡ parts.now }

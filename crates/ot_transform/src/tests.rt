@@ -4,7 +4,7 @@ use crate::{
     chain_law, compose, composed_image_law, composition_law, diamond_law, left_of, left_through,
     lengths_law, merge_law, transform, transform_gaps_law,
 };
-use ot_text::{ApplyError, MAX_LEN, Op, OpBuilder, Text, apply};
+use ot_text::{ApplyError, Op, OpBuilder, Part, Text, apply};
 use std::alloc::{AllocError, Global};
 use std::process::Abort;
 use std::test::Fail;
@@ -28,19 +28,15 @@ fn op(alloc: Global, parts: &[Spelled]) -> Result<Op, AllocError> {
 }
 
 fn put(alloc: Global, builder: &mut OpBuilder, part: &Spelled) -> Result<(), AllocError> {
-    let base_left = MAX_LEN - builder.base();
-    let target_left = MAX_LEN - builder.target();
-    match part {
-        Keep(count) if *count <= base_left && *count <= target_left => builder.retain(*count),
-        Put(string) => {
-            let text = Text::of(alloc, string)?;
-            if text.len() > target_left {
-                return Err(AllocError);
-            }
-            builder.insert(&text)
-        }
-        Cut(count) if *count <= base_left => builder.delete(*count),
-        _ => Err(AllocError),
+    let part = match part {
+        Keep(count) => Part::Retain(*count),
+        Put(string) => Part::Insert(Text::of(alloc, string)?),
+        Cut(count) => Part::Delete(*count),
+    };
+    if builder.try_put(&part)? {
+        Ok(())
+    } else {
+        Err(AllocError)
     }
 }
 

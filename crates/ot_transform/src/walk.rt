@@ -10,11 +10,14 @@ use ot_text::Part;
 // What is left of the parts of both.
 #[derive(Drop)]
 pub(crate) struct Walk<'a> {
+    // What is left of the first operation's parts.
     first: Rest<'a>,
+    // What is left of the second one's.
     second: Rest<'a>,
 }
 
 impl<'a> Walk<'a> {
+    // A walk over all parts of both.
     pub(crate) fn new(first: &'a [Part], second: &'a [Part]) -> Walk<'a>
         requires first { IsNormal first.now }
         requires second { IsNormal second.now }

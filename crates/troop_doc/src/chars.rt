@@ -1,11 +1,9 @@
 //! The characters of a document.
-ghost use Rattle.std.specs.Prelude.{◌≡◌, ◌+◌, ◌≤◌, ◌<◌, ◌^◌, ◌↔◌, [], ◌++◌, IsTrue, IsOk, IfOk, OnOk, OnErr, length, drop, vec_len, vec_capacity};
-ghost use Rattle.ot_text.specs.Change.{base, target, effect, plain};
-ghost use Rattle.ot_text.specs.Parts.{passed_by, left_by_part};
-ghost use Rattle.ot_text.specs.Pieces.{piece_of};
+ghost use Rattle.std.specs.Prelude.{◌≡◌, ◌<◌, ◌^◌, ◌↔◌, [], IsTrue, IsOk, IfOk, OnOk, OnErr, length};
+ghost use Rattle.ot_text.specs.Change.{base, effect, plain};
 ghost use Rattle.ot_text.specs.Ready.{IsReady, IsAsLarge};
 
-use ot_text::{Op, Part, Text};
+use ot_text::{NewElement, Op, Text, rewrite};
 use std::alloc::{AllocError, Global};
 use std::marker::Model;
 use std::mem::swap;
@@ -19,6 +17,18 @@ pub(crate) struct Chars {
     spare: Vec<char>,
 }
 
+// A new character is its own element.
+#[derive(Clone, Copy)]
+struct Plain;
+
+impl NewElement<char> for Plain {
+    ghost element_of = { λ _. plain };
+
+    fn make(&self, character: char) -> char {
+        character
+    }
+}
+
 impl Model for Chars {
     ghost use Rattle.std.specs.Prelude.{length, vec_capacity};
     ghost use Rattle.author_marks.specs.Authorship.{room_of};
@@ -30,6 +40,7 @@ impl Model for Chars {
 }
 
 impl Chars {
+    // No characters.
     pub(crate) fn new(alloc: Global) -> Chars
         ensures { result.chars ≡ [] }
     {
@@ -39,6 +50,7 @@ impl Chars {
         }
     }
 
+    // How many there are.
     pub(crate) fn len(&self) -> u64
         ensures value { result ≡ length self.now.chars }
         ensures short { result < 2 ^ 61 }
@@ -46,6 +58,7 @@ impl Chars {
         self.as_slice().len() as u64
     }
 
+    // The characters, in order.
     pub(crate) fn as_slice(&self) -> &[char]
         ensures value { result.now ≡ self.now.chars }
         ensures short { length self.now.chars < 2 ^ 61 }
@@ -53,6 +66,7 @@ impl Chars {
         self.chars.as_slice()
     }
 
+    // Where their memory comes from.
     pub(crate) fn allocator(&self) -> Global {
         *self.chars.allocator()
     }
@@ -77,16 +91,18 @@ impl Chars {
         requires ready { IsReady op.now self.old.ready }
         ensures { self.new.chars ≡ effect plain op.now self.old.chars }
     {
-        rewrite(&mut self.spare, &self.chars, op);
+        rewrite(&mut self.spare, &self.chars, op, &Plain);
         swap(&mut self.chars, &mut self.spare);
     }
 
+    // The characters as a text.
     pub(crate) fn text(&self) -> Result<Text, AllocError>
         ensures { IfOk result (λ text. text ≡ self.now.chars) }
     {
         Text::from_chars(self.allocator(), self.as_slice())
     }
 
+    // A copy of the characters.
     pub(crate) fn try_clone(&self) -> Result<Chars, AllocError>
         ensures { IfOk result (λ copy. copy.chars ≡ self.now.chars) }
     {
@@ -98,57 +114,10 @@ impl Chars {
         })
     }
 
+    // Whether the others are the same.
     pub(crate) fn same(&self, other: &Chars) -> bool
         ensures { IsTrue result ↔ (self.now.chars ≡ other.now.chars) }
     {
         self.as_slice() == other.as_slice()
-    }
-}
-
-// Makes `made` what the operation makes of the characters.
-fn rewrite(made: &mut Vec<char>, chars: &[char], op: &Op)
-    requires base { base op.now ≡ length chars.now }
-    requires room { target op.now ≤ vec_capacity made.old }
-    ensures { made.new.items ≡ effect plain op.now chars.now }
-{
-    made.clear();
-    let parts = op.parts();
-    let mut at = 0;
-    for part in parts {
-        at = put_part(made, part, chars, at);
-    }
-}
-
-// Puts behind `made` what the part makes of the characters from `at` on, and answers the place behind those.
-fn put_part(made: &mut Vec<char>, part: &Part, chars: &[char], at: usize) -> usize
-    requires within { at + passed_by part.now ≤ length chars.now }
-    requires room { vec_len made.old + left_by_part part.now ≤ vec_capacity made.old }
-    ensures place { result ≡ at + passed_by part.now }
-    ensures made { made.new.items ≡ made.old.items ++ piece_of plain part.now (drop at chars.now) }
-    ensures capacity { vec_capacity made.old ≤ vec_capacity made.new }
-{
-    match part {
-        Part::Retain(count) => {
-            let end = at + *count as usize;
-            put_chars(made, &chars[at..end]);
-            end
-        }
-        Part::Insert(text) => {
-            put_chars(made, text.chars());
-            at
-        }
-        Part::Delete(count) => at + *count as usize,
-    }
-}
-
-// Puts these characters behind `made`.
-fn put_chars(made: &mut Vec<char>, chars: &[char])
-    requires { vec_len made.old + length chars.now ≤ vec_capacity made.old }
-    ensures made { made.new.items ≡ made.old.items ++ chars.now }
-    ensures capacity { vec_capacity made.old ≤ vec_capacity made.new }
-{
-    match made.extend_from_slice(chars) {
-        Ok(()) => {}
-        Err(_) => unreachable!(),
     }
 }

@@ -1,4 +1,3 @@
-use Rattle.std.proofs.Common.{arith}
 use Rattle.ot_text.proofs.Kept.{room_with_part}
 use Rattle.ot_text.proofs.builder.OpBuilder.put.Goals as goal
 

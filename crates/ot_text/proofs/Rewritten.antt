@@ -1,5 +1,5 @@
 -- How a list is rewritten, part by part, within the room that was made for it.
-use Rattle.std.proofs.Common.{◌≡◌, ℕ, ◌+◌, ◌<◌, ◌≤◌, List, [], ◌∷◌, ◌++◌, length, get_or, drop, map, replicate, refl, sym, ap, length-take, length-drop, length-append, arith}
+use Rattle.std.proofs.Common.{◌≡◌, ℕ, ◌+◌, ◌<◌, ◌≤◌, List, ◌++◌, length, get_or, drop, refl, sym, ap, length-take, length-drop, length-append, arith}
 use Rattle.std.proofs.lemmas.List.{length-map}
 use Rattle.ot_text.specs.declared.part.Part.{Part}
 use Rattle.ot_text.specs.declared.part.Part.TheVariants.{Retain, Insert, Delete}
@@ -8,11 +8,6 @@ use Rattle.ot_text.specs.Parts.{norm, passed_by, left_by_part}
 use Rattle.ot_text.specs.Pieces.{piece_of}
 use Rattle.ot_text.proofs.Applied.{IsAppliedSoFar, part_fits, part_applied}
 use Rattle.ot_text.proofs.Effects.{length-effect}
-use Rattle.author_marks.specs.Authorship.{mark_by}
-
-pub map-mark_by : (who : ℕ) (t : List ℕ) → map (mark_by who) t ≡ replicate (length t) who
-map-mark_by who [] = refl
-map-mark_by who (c ∷ t) = ap (λ marks. who ∷ marks) (map-mark_by who t)
 
 length-piece_of : {X : Type 0} (new : ℕ → X) (part : Part) (m : List X) → passed_by part ≤ length m
     → length (piece_of new part m) ≡ left_by_part part
