@@ -43,6 +43,7 @@ written_out-with_first who ((other, count) ∷ runs) =
     cond_both (who == other) ((other, count + 1) ∷ runs) ((who, 1) ∷ (other, count) ∷ runs) (λ made. written_out made ≡ who ∷ written_out ((other, count) ∷ runs))
     (λ e. let more : count + 1 ≡ suc count = omega arith in rw (more, eqb-true who other e) refl) (λ e. refl)
 
+-- the runs of marks are runs of them
 pub runs_of-are : (marks : List ℕ) → AreRunsOf (runs_of marks) marks
 runs_of-are [] = record { counts = λ k d l. absurd (omega arith); neighbours = tt; whole = refl }
 runs_of-are (who ∷ marks) =
@@ -78,5 +79,6 @@ runs_of-written_out ((who, suc k) ∷ runs) some h =
     (runs_of-written_out runs (counts-tail (who, suc k) runs some) (neighbours-tail (who, suc k) runs h))
     (neighbours-count who (suc k) 1 runs h)
 
+-- no other runs are runs of these marks
 pub runs_of-only : (runs : Runs) (marks : List ℕ) → AreRunsOf runs marks → runs ≡ runs_of marks
 runs_of-only runs marks h = sym (runs_of-written_out runs h.counts h.neighbours) ∙ ap runs_of h.whole

@@ -14,6 +14,7 @@ use Rattle.client_state.specs.declared.state.State.TheVariants.{Synchronized, Aw
 use Rattle.client_state.specs.Pending.{outstanding, after_edit, after_own, after_told, other_base}
 use Rattle.client_state.specs.Standing.{FitsOn, pending_on}
 
+-- behind a local edit the unconfirmed operations still fit the document
 pub typed_bases : (own : ℕ) (s : State) (op : Change) (d : Marked) → base op ≡ length (pending_on own s d) → FitsOn s (length d) → FitsOn (after_edit s op) (length d)
 typed_bases own Synchronized op d e f = e
 typed_bases own (Awaiting u) op d e f = (f, e ∙ length-effect (marked own) u d (sym f))
@@ -22,6 +23,7 @@ typed_bases own (WithBuffer u v) op d e f =
     let end : target v ≡ base op = sym (length-effect (marked own) v (effect (marked own) u d) (mid ∙ sym f.1)) ∙ sym e in
     (f.0, base-comp v op end ∙ f.1)
 
+-- behind an entry by another they fit the document that it makes
 pub told_bases : (who : ℕ) (s : State) (o : Option Change) (d : Marked) → FitsOn s (length d) → OpFits o (length d) → FitsOn (after_told s o) (length (changed_by who o d))
 told_bases who s None d f g = f
 told_bases who Synchronized (Some b) d f g = tt
@@ -33,6 +35,7 @@ told_bases who (WithBuffer u v) (Some b) d f g =
       base-left v b1 same ∙ sym (target-left u b (f.0 ∙ sym g)),
     )
 
+-- behind the confirmation of the outstanding operation they fit the document that it makes
 pub own_bases : (who : ℕ) (s : State) (o : Option Change) (d : Marked) → o ≡ outstanding s → FitsOn s (length d) → FitsOn (after_own s) (length (changed_by who o d))
 own_bases who Synchronized o d e f = tt
 own_bases who (Awaiting w) o d e f = tt

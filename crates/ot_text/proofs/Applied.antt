@@ -9,11 +9,13 @@ use Rattle.ot_text.specs.Pieces.{piece_of}
 use Rattle.ot_text.proofs.Effects.{effect-insert_then, effect-retain_then, effect-delete_then}
 use Rattle.ot_text.proofs.Then.{base-retain_then, base-delete_then}
 
+-- the base of an operation with one part in front
 pub base-part_then : (part : Part) (c : Change) → base (part_then part c) ≡ passed_by part + base c
 base-part_then (Retain k) c = base-retain_then k c
 base-part_then (Insert t) c = omega arith
 base-part_then (Delete k) c = base-delete_then k c
 
+-- the effect of an operation with one part in front
 pub effect-part_then : {X : Type 0} (new : ℕ → X) (part : Part) (c : Change) (m : List X) → passed_by part ≤ length m
     → effect new (part_then part c) m ≡ piece_of new part m ++ effect new c (drop (passed_by part) m)
 effect-part_then new (Retain k) c m within = effect-retain_then new k c m within
@@ -29,12 +31,14 @@ norm-drop : (parts : List Part) (i : ℕ) (part : Part) → i < length parts →
     → norm (drop i parts) ≡ part_then part (norm (drop (i + 1) parts))
 norm-drop parts i part within is = ap norm (drop_more parts i part within ∙ ap (λ p. p ∷ drop (i + 1) parts) (sym is))
 
+-- what a part goes over, and the rest, is what was left of the base
 pub part_fits : (parts : List Part) (i at n : ℕ) (part : Part) → i < length parts → part ≡ get_or parts i part
     → at + base (norm (drop i parts)) ≡ n
     → at + (passed_by part + base (norm (drop (i + 1) parts))) ≡ n
 part_fits parts i at n part within is fits =
     omega (arith, ap base (norm-drop parts i part within is), base-part_then part (norm (drop (i + 1) parts)))
 
+-- one part further, the effect so far is that of the parts so far
 pub part_applied : {X : Type 0} (new : ℕ → X) (parts : List Part) (items made : List X) (i at : ℕ) (part : Part)
     → i < length parts → part ≡ get_or parts i part
     → IsAppliedSoFar new parts items made i at → IsAppliedSoFar new parts items (made ++ piece_of new part (drop at items)) (i + 1) (at + passed_by part)

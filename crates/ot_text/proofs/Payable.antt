@@ -31,6 +31,7 @@ texts_le (part ∷ parts) h =
       texts_le parts h.2,
     )
 
+-- an operation puts in no more texts than characters
 pub insert_count-le-inserted : (c : Change) → insert_count c ≤ inserted c
 insert_count-le-inserted c =
     omega (arith, texts_le (parts_of c) (normal-parts_of c), inserted-norm (parts_of c), ap inserted (norm-parts_of c))

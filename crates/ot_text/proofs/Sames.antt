@@ -7,6 +7,7 @@ use Rattle.std.proofs.lemmas.Slice.Eq.{slice_eq-Decides}
 use Rattle.ot_text.specs.Change.{Change, Fate, Gone, Kept}
 use Rattle.ot_text.specs.Same.{same_text, same_fate, same_op}
 
+-- the test of texts decides whether they are equal
 pub text_decides : (a b : List ℕ) → Decides (same_text a b) (a ≡ b)
 text_decides a b = slice_eq-Decides Decides-eqb a b (same_text a b) refl
 
@@ -23,6 +24,7 @@ both true true a a' b b' f d e inj = (λ _. rw (d.0 refl, e.0 refl) refl, λ _. 
 both true false a a' b b' f d e inj = (λ no. cc, λ is. e.1 (inj is).1)
 both false q a a' b b' f d e inj = (λ no. cc, λ is. d.1 (inj is).0)
 
+-- the test of operations decides whether they are equal
 pub op_decides : (a b : Change) → Decides (same_op a b) (a ≡ b)
 op_decides a b =
     both (same_text a.start b.start) (pointwise same_fate a.places b.places) a.start b.start a.places b.places (λ (s : List ℕ) (p : List Fate). record { start = s; places = p })

@@ -19,14 +19,17 @@ inserted-part_then (Retain k) c = omega (arith, inserted-retain_then k c)
 inserted-part_then (Insert t) c = inserted-insert_then t c
 inserted-part_then (Delete k) c = omega (arith, inserted-delete_then k c)
 
+-- the base of a list of parts is the sum of what they go over
 pub base-norm : (parts : List Part) → base (norm parts) ≡ base_of parts
 base-norm [] = refl
 base-norm (part ∷ parts) = omega (arith, base-part_then part (norm parts), base-norm parts, sum_by-cons passed_by part parts)
 
+-- the target of a list of parts is the sum of what they put there
 pub target-norm : (parts : List Part) → target (norm parts) ≡ target_of parts
 target-norm [] = refl
 target-norm (part ∷ parts) = omega (arith, target-part_then part (norm parts), target-norm parts, sum_by-cons left_by_part part parts)
 
+-- the number of inserted characters of a list of parts
 pub inserted-norm : (parts : List Part) → inserted (norm parts) ≡ inserted_of parts
 inserted-norm [] = refl
 inserted-norm (part ∷ parts) = omega (arith, inserted-part_then part (norm parts), inserted-norm parts, sum_by-cons inserted_by part parts)
@@ -57,5 +60,6 @@ image_at-norm i (Insert t ∷ parts) =
     ∙ ap (λ rest. map New t ++ rest) (image_at-norm i parts)
 image_at-norm i (Delete k ∷ parts) = image_at-delete_then k i (norm parts) ∙ image_at-norm (i + k) parts
 
+-- the image of a list of parts, part by part
 pub image-norm : (parts : List Part) → image (norm parts) ≡ image_from 0 parts
 image-norm parts = image_at-norm 0 parts

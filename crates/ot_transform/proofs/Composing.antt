@@ -5,6 +5,7 @@ use Rattle.ot_text.proofs.Then.{insert_then-append, retain_then-add}
 use Rattle.std.proofs.lemmas.List.{length-take-le}
 use Rattle.ot_transform.specs.Composition.{comp_on, comp}
 
+-- a text that the second operation puts in at the front
 pub comp-second_text : (t : List ℕ) (a b : Change) → comp a (insert_then t b) ≡ insert_then t (comp a b)
 comp-second_text t a b =
     let rest : Change = comp_on a.places (drop (length a.start) b.places) in
@@ -34,6 +35,7 @@ comp-gone : (n : ℕ) (a b : Change) → comp (retain_then n a) (delete_then n b
 comp-gone zero a b = refl
 comp-gone (suc n) a b = ap (delete_then 1) (comp-gone n a b)
 
+-- places that the first operation removes at the front
 pub comp-removed : (k : ℕ) (a b : Change) → comp (delete_then k a) b ≡ delete_then k (comp a b)
 comp-removed zero a b = refl
 comp-removed (suc k) a b = ap (delete_then 1) (comp-removed k a b)

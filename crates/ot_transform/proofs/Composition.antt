@@ -53,6 +53,7 @@ effect-comp_on new (Kept t ∷ fs) (Kept u ∷ gs) (x ∷ m) p =
     ∙ ap (λ rest. map new u ++ rest)
     (text_then new gs t (comp_on fs gs') m (effect_on new fs m) (effect-comp_on new fs gs' m (omega arith))))
 
+-- the composition has the effect of both operations in a row
 pub effect-comp : {X : Type 0} (new : ℕ → X) (a b : Change) (m : List X) → base a ≡ length m
     → effect new (comp a b) m ≡ effect new b (effect new a m)
 effect-comp new a b m p =
@@ -71,6 +72,7 @@ base-comp_on (Kept t ∷ fs) (Gone ∷ gs) p =
 base-comp_on (Kept t ∷ fs) (Kept u ∷ gs) p =
     ap suc (base-comp_on fs (drop (length t) gs) (omega (arith, length-drop (length t) gs)))
 
+-- the composition has the first one's base
 pub base-comp : (a b : Change) → target a ≡ base b → base (comp a b) ≡ base a
 base-comp a b p =
     base-comp_on a.places (drop (length a.start) b.places) (omega (arith, length-drop (length a.start) b.places))
@@ -81,12 +83,14 @@ image-comp a b p =
     ap (λ n. effect New (comp a b) (places_from 0 n)) (base-comp a b p)
     ∙ effect-comp New a b (places_from 0 (base a)) (sym (length-places_from 0 (base a)))
 
+-- the image of a composition is the second one's, filled from the first one's
 pub image-comp-filled : (a b : Change) → target a ≡ base b
     → map Some (image (comp a b)) ≡ map (filled New (image a)) (image b)
 image-comp-filled a b p =
     let long : length (image a) ≡ target a = length-effect New a (places_from 0 (base a)) (length-places_from 0 (base a)) in
     ap (map Some) (image-comp a b p) ∙ sym (effect_by_image New b (image a) (sym p ∙ sym long))
 
+-- both ways round two operations compose to one
 pub comp-both_ways : (a b : Change) → base a ≡ base b → comp a (right b a) ≡ comp b (left a b)
 comp-both_ways a b p =
     let fit_a : target a ≡ base (right b a) = sym (base-right a b p) in

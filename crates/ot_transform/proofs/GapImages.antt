@@ -86,6 +86,7 @@ left_images s t (f ∷ fs) (g ∷ gs) j p =
     ∙ sym (append_of_three (map New s) (places_from j (length t)) (if_both f g (j + length t)) _)
     ∙ sym (gap_places-cons (left_gap (change s (f ∷ fs)) (change t (g ∷ gs))) t g gs j (suc (length fs)))
 
+-- the image of the first operation moved through the second, gap by gap
 pub image-left : (a b : Change) → base a ≡ base b → image (left a b) ≡ left_image a b
 image-left a b p =
     ap (λ n. effect New (left a b) (places_from 0 n)) (base-left a b p)
@@ -120,6 +121,7 @@ right_images s t (f ∷ fs) (g ∷ gs) j p =
     ∙ sym (append_of_three (places_from j (length s)) (map New t) (if_both g f (j + length s)) _)
     ∙ sym (gap_places-cons (right_gap (change t (g ∷ gs)) (change s (f ∷ fs))) s f fs j (suc (length fs)))
 
+-- the image of the second operation moved through the first, gap by gap
 pub image-right : (a b : Change) → base a ≡ base b → image (right b a) ≡ right_image b a
 image-right a b p =
     ap (λ n. effect New (right b a) (places_from 0 n)) (base-right a b p)

@@ -12,16 +12,19 @@ change s fs = record { start = s; places = fs }
 abbrev pub one_if_stays : Fate → ℕ
 one_if_stays f = if stays f then 1 else 0
 
+-- gap after gap from the next one on
 pub each_from-suc : {X : Type 0} (f : ℕ → List X) (i n : ℕ) → each_from f (suc i) n ≡ each_from (λ k. f (suc k)) i n
 each_from-suc f i zero = refl
 each_from-suc f i (suc n) = ap (λ rest. f (suc i) ++ rest) (each_from-suc f (suc i) n)
 
+-- gaps at which two functions agree
 pub each_from-same : {X : Type 0} (f g : ℕ → List X) → ((k : ℕ) → f k ≡ g k) → (i n : ℕ)
     → each_from f i n ≡ each_from g i n
 each_from-same f g same i zero = refl
 each_from-same f g same i (suc n) =
     ap (λ here. here ++ each_from f (suc i) n) (same i) ∙ ap (λ rest. g i ++ rest) (each_from-same f g same (suc i) n)
 
+-- three lists in front of a fourth
 pub append_of_three : {X : Type 0} (xs ys zs rest : List X) → (xs ++ (ys ++ zs)) ++ rest ≡ xs ++ (ys ++ (zs ++ rest))
 append_of_three xs ys zs rest = append_assoc xs (ys ++ zs) rest ∙ ap (λ more. xs ++ more) (append_assoc ys zs rest)
 
@@ -31,10 +34,12 @@ pub gap_place-cons : (t : List ℕ) (g : Fate) (gs : List Fate) (i : ℕ)
 gap_place-cons t g gs zero = omega arith
 gap_place-cons t g gs (suc i) = omega (arith, gap_place-cons t g gs i)
 
+-- how many places there are
 pub length-places_from : (i n : ℕ) → length (places_from i n) ≡ n
 length-places_from i zero = refl
 length-places_from i (suc n) = ap suc (length-places_from (suc i) n)
 
+-- places in two parts
 pub places_from-add : (j n k : ℕ) → places_from j (n + k) ≡ places_from j n ++ places_from (j + n) k
 places_from-add j zero k =
     let e : 0 + k ≡ k = omega arith in

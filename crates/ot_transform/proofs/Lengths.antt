@@ -40,10 +40,12 @@ inserted-left_on (f ∷ fs) (g ∷ gs) p =
       inserted_behind-cons f fs,
     )
 
+-- an operation moved as the first puts in as much as before
 pub inserted-left : (a b : Change) → base a ≡ base b → inserted (left a b) ≡ inserted a
 inserted-left a b p =
     omega (arith, inserted-left_gap_then a.start b.start (left_on a.places b.places), inserted-left_on a.places b.places p)
 
+-- the target of an operation moved as the first
 pub target-left-le : (a b : Change) → base a ≡ base b → target (left a b) ≤ target b + inserted a
 target-left-le a b p = omega (arith, target-le (left a b), base-left a b p, inserted-left a b p)
 
@@ -59,6 +61,7 @@ inserted-right_on (g ∷ gs) (f ∷ fs) p =
       inserted_behind-cons g gs,
     )
 
+-- an operation moved as the second puts in as much as before
 pub inserted-right : (a b : Change) → base a ≡ base b → inserted (right b a) ≡ inserted b
 inserted-right a b p =
     omega (
@@ -67,6 +70,7 @@ inserted-right a b p =
       inserted-right_on b.places a.places (sym p),
     )
 
+-- the target of an operation moved as the second
 pub target-right-le : (a b : Change) → base a ≡ base b → target (right b a) ≤ target a + inserted b
 target-right-le a b p = omega (arith, target-le (right b a), base-right a b p, inserted-right a b p)
 
@@ -80,6 +84,7 @@ target-left a b p =
     ∙ sym (ap length (effect-right New New a b m (sym n) (sym p ∙ sym n)))
     ∙ length-effect New (right b a) (effect New a m) (length-effect New a m n ∙ sym (base-right a b p))
 
+-- the composition makes a text as long as the second operation does
 pub target-comp : (a b : Change) → target a ≡ base b → target (comp a b) ≡ target b
 target-comp a b p =
     let m : List Item = places_from 0 (base a) in

@@ -97,10 +97,12 @@ effect-right_from new_a new_b s t (f ∷ fs) (g ∷ gs) (x ∷ m) p q =
     (effect-right_from new_a new_b (text_behind f) (text_behind g) fs gs m (omega arith) (omega arith)))
     ∙ merge-cons new_a new_b s t f g fs gs x m
 
+-- the second operation, then the first moved through it, make the merge
 pub effect-left : {X : Type 0} (new_a new_b : ℕ → X) (a b : Change) (m : List X) → base a ≡ length m
     → base b ≡ length m → effect new_a (left a b) (effect new_b b m) ≡ merge new_a a new_b b m
 effect-left new_a new_b a b m p q = effect-left_from new_a new_b a.start b.start a.places b.places m p q
 
+-- the first operation, then the second moved through it, make the merge
 pub effect-right : {X : Type 0} (new_a new_b : ℕ → X) (a b : Change) (m : List X) → base a ≡ length m
     → base b ≡ length m → effect new_b (right b a) (effect new_a a m) ≡ merge new_a a new_b b m
 effect-right new_a new_b a b m p q = effect-right_from new_a new_b a.start b.start a.places b.places m p q
@@ -123,6 +125,7 @@ base-left_on (Gone ∷ fs) (Kept t ∷ gs) p =
 base-left_on (Kept s ∷ fs) (Kept t ∷ gs) p =
     omega (arith, base-left_gap_then s t (left_on fs gs), base-left_on fs gs (omega arith))
 
+-- an operation moved as the first has the other's target as its base
 pub base-left : (a b : Change) → base a ≡ base b → base (left a b) ≡ target b
 base-left a b p =
     omega (arith, base-left_gap_then a.start b.start (left_on a.places b.places), base-left_on a.places b.places p)
@@ -138,6 +141,7 @@ base-right_on (Gone ∷ gs) (Kept s ∷ fs) p =
 base-right_on (Kept t ∷ gs) (Kept s ∷ fs) p =
     omega (arith, base-right_gap_then s t (right_on gs fs), base-right_on gs fs (omega arith))
 
+-- an operation moved as the second has the other's target as its base
 pub base-right : (a b : Change) → base a ≡ base b → base (right b a) ≡ target a
 base-right a b p =
     let same : length b.places ≡ length a.places = sym p in

@@ -70,6 +70,7 @@ length-image_at c i =
     length-stays true k = refl
     length-stays false k = refl
 
+-- the place of a gap is the length of what the image has in front of it
 pub gap_place-length : (c : Change) (i : ℕ) → gap_place c i ≡ length (each_from (image_at c) 0 i)
 gap_place-length c zero = refl
 gap_place-length c (suc i) =
@@ -98,6 +99,7 @@ image-round c i within =
     ∙ ap (λ n. each_from (image_at c) 0 i ++ (image_at c n ++ each_from (image_at c) (suc n) (base c - i))) here
     ∙ ap (λ more. each_from (image_at c) 0 i ++ more) (append_assoc (map New (ins c i)) (if_stays (kept c i) i) _)
 
+-- at the places of a gap's text the image has that text
 pub filled-ins_places : (c : Change) (i : ℕ) → map (filled New (image c)) (ins_places c i) ≡ map Some (map New (ins c i))
 filled-ins_places c i = elim (cases_lt (base c) i) [
   | inr within ↦
@@ -108,6 +110,7 @@ filled-ins_places c i = elim (cases_lt (base c) i) [
       rw none refl
 ]
 
+-- at a kept place's place the image has that place
 pub filled-kept_place : (c : Change) (i : ℕ) → IsTrue (kept c i) → filled New (image c) (kept_place c i) ≡ Some (Old i)
 filled-kept_place c i is_kept = elim (cases_lt (base c) i) [
   | inr within ↦

@@ -19,16 +19,19 @@ IsLeftSoFar whole made a b = then made (left a b) ≡ whole
 abbrev pub IsRightSoFar : Change → Change → Change → Change → Type 0
 IsRightSoFar whole made a b = then made (right b a) ≡ whole
 
+-- one step further, what is made of `left` and what is left to do are still the whole
 pub left_so_far : (whole made : Change) (step : Step) (a b a' b' : Change) → Leads step a b a' b'
     → IsLeftSoFar whole made a b → IsLeftSoFar whole (then made (left_step step)) a' b'
 left_so_far whole made step a b a' b' h e =
     then_assoc made (left_step step) (left a' b') ∙ ap (then made) (sym (left-step step a b a' b' h)) ∙ e
 
+-- one step further, what is made of `right` and what is left to do are still the whole
 pub right_so_far : (whole made : Change) (step : Step) (a b a' b' : Change) → Leads step a b a' b'
     → IsRightSoFar whole made a b → IsRightSoFar whole (then made (right_step step)) a' b'
 right_so_far whole made step a b a' b' h e =
     then_assoc made (right_step step) (right b' a') ∙ ap (then made) (sym (right-step step a b a' b' h)) ∙ e
 
+-- at the end what is made is `left`
 pub left_at_end : (whole made a b : Change) → IsOver a b → IsLeftSoFar whole made a b → made ≡ whole
 left_at_end whole made a b over e =
     sym (then-nothing made)
@@ -36,6 +39,7 @@ left_at_end whole made a b over e =
     ∙ ap (λ x. then made (left a x)) (sym over.second)
     ∙ e
 
+-- at the end what is made is `right`
 pub right_at_end : (whole made a b : Change) → IsOver a b → IsRightSoFar whole made a b → made ≡ whole
 right_at_end whole made a b over e =
     sym (then-nothing made)
@@ -52,6 +56,7 @@ target-part-le : (made step rest whole : Change) → then (then made step) rest 
     → target made + target step ≤ target whole
 target-part-le made step rest whole e = omega (arith, ap target e, target-then (then made step) rest, target-then made step)
 
+-- there is room for what a step does in `left`
 pub left_fits : (x y made : Change) (step : Step) (a b a' b' : Change) → base x ≡ base y
     → target y + inserted x ≤ MAX_LEN → Leads step a b a' b' → IsLeftSoFar (left x y) made a b
     → Fits made (left_step step)
@@ -63,6 +68,7 @@ left_fits x y made step a b a' b' same room h e =
       of_target = omega (arith, target-part-le made (left_step step) (left a' b') (left x y) whole, target-left-le x y same);
     }
 
+-- there is room for what a step does in `right`
 pub right_fits : (x y made : Change) (step : Step) (a b a' b' : Change) → base x ≡ base y
     → target x + inserted y ≤ MAX_LEN → Leads step a b a' b' → IsRightSoFar (right y x) made a b
     → Fits made (right_step step)

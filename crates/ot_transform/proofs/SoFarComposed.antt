@@ -40,6 +40,7 @@ split : (parts : List Part) (i : ℕ) (part : Part) → i < length parts → par
     → norm (drop i parts) ≡ part_then part (norm (drop (i + 1) parts))
 split parts i part within is = ap norm (drop_more parts i part within ∙ ap (λ p. p ∷ drop (i + 1) parts) (sym is))
 
+-- there is room for what the composition does over one part
 pub part_room : (parts : List Part) (i : ℕ) (part : Part) (a b : Change) (now : Composer) → i < length parts
     → part ≡ get_or parts i part → base a ≤ MAX_LEN → target b ≤ MAX_LEN → IsComposedSoFar parts i a b now
     → HasRoomFor (passed_by part) (left_by_part part) now
@@ -51,6 +52,7 @@ part_room parts i part a b now within is short_a short_b s =
       of_target = omega (arith, s.room);
     }
 
+-- one part further, what is made and what is to come are still the composition
 pub part_composed : (parts : List Part) (i : ℕ) (part : Part) (a b : Change) (old new : Composer) → i < length parts
     → part ≡ get_or parts i part → IsComposedSoFar parts i a b old
     → GoesOn (passed_by part) (left_by_part part) (part_then part) same old new
@@ -65,6 +67,7 @@ part_composed parts i part a b old new within is s g =
       room = omega (arith, g.room, s.room);
     }
 
+-- at the end what is made is the composition
 pub composed_at_end : (parts : List Part) (i : ℕ) (a b : Change) (old new : Composer) → length parts ≤ i
     → IsComposedSoFar parts i a b old → GoesOn 0 0 same same old new → HasNoTextFirst new.rest → IsNormal new.rest
     → new.made ≡ comp a b

@@ -89,6 +89,7 @@ before f a b c d p q = ap (λ x. f x b) p ∙ ap (f c) q
 start_kept : (a b : Change) → a ≡ b → a.start ≡ [] → b.start ≡ []
 start_kept a b e none = sym (ap (λ (x : Change). x.start) e) ∙ none
 
+-- a step does its share of `left`
 pub left-step : (step : Step) (a b a' b' : Change) → Leads step a b a' b' → left a b ≡ then (left_step step) (left a' b')
 left-step (First t) a b a' b' h =
     before left a b _ _ h.first h.second
@@ -113,6 +114,7 @@ left-step (BothDelete n) a b a' b' h =
     before left a b _ _ h.first h.second
     ∙ left-both_delete n a' b'
 
+-- a step does its share of `right`
 pub right-step : (step : Step) (a b a' b' : Change) → Leads step a b a' b' → right b a ≡ then (right_step step) (right b' a')
 right-step (First t) a b a' b' h =
     before right b a _ _ h.second h.first

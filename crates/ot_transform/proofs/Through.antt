@@ -17,6 +17,7 @@ pub record IsThroughSoFar (bs : List Change) (i : ℕ) (op a : Change) : Type 0 
 split : (bs : List Change) (i : ℕ) (b : Change) → i < length bs → b ≡ get_or bs i b → drop i bs ≡ b ∷ drop (i + 1) bs
 split bs i b within is = drop_more bs i b within ∙ ap (λ x. x ∷ drop (i + 1) bs) (sym is)
 
+-- the next operation of a chain fits what was moved so far, and its target has room
 pub next_fits : (bs : List Change) (i : ℕ) (b op a : Change) → i < length bs → b ≡ get_or bs i b
     → IsThroughSoFar bs i op a → (base op ≡ base b) × (target b + inserted op ≤ MAX_LEN)
 next_fits bs i b op a within is s =
@@ -24,6 +25,7 @@ next_fits bs i b op a within is s =
     let room : HasRoom (inserted op) (b ∷ drop (i + 1) bs) = rw (split bs i b within is) at s.room in
     (sym run.0, room.0)
 
+-- one operation of the chain further
 pub moved_on : (bs : List Change) (i : ℕ) (b op a : Change) → i < length bs → b ≡ get_or bs i b
     → IsThroughSoFar bs i op a → IsThroughSoFar bs (i + 1) (left op b) a
 moved_on bs i b op a within is s =
@@ -42,12 +44,14 @@ pub through-append : (a : Change) (bs cs : List Change) → through a (bs ++ cs)
 through-append a [] cs = refl
 through-append a (b ∷ bs) cs = through-append (left a b) bs cs
 
+-- an operation moved through a chain puts in as much as before
 pub inserted-through : (a : Change) (bs : List Change) → IsRun (base a) bs → inserted (through a bs) ≡ inserted a
 inserted-through a [] run = refl
 inserted-through a (b ∷ bs) run =
     let same : base a ≡ base b = sym run.0 in
     inserted-through (left a b) bs (rw (base-left a b same) run.1) ∙ inserted-left a b same
 
+-- an operation moved through a chain has the length that the chain leads to as its base
 pub base-through : (a : Change) (bs : List Change) → IsRun (base a) bs → base (through a bs) ≡ run_end (base a) bs
 base-through a [] run = refl
 base-through a (b ∷ bs) run =
@@ -61,6 +65,7 @@ IsRun-append n (b ∷ bs) cs =
     let rest = IsRun-append (target b) bs cs in
     (λ run. let runs = rest.0 run.1 in ((run.0, runs.0), runs.1), λ runs. (runs.0.0, rest.1 (runs.0.1, runs.1)))
 
+-- where two chains in a row lead
 pub run_end-append : (n : ℕ) (bs cs : List Change) → run_end n (bs ++ cs) ≡ run_end (run_end n bs) cs
 run_end-append n [] cs = refl
 run_end-append n (b ∷ bs) cs = run_end-append (target b) bs cs

@@ -49,6 +49,7 @@ some_text : (t : List ℕ) → (t ≡ [] → ⊥) → 0 < length t
 some_text [] some = absurd (some refl)
 some_text (c ∷ t) some = omega arith
 
+-- each step leaves less to walk over
 pub to_go-step : (step : Step) (a b a' b' : Change) → Leads step a b a' b' → to_go a' b' < to_go a b
 to_go-step (First t) a b a' b' h =
     omega (

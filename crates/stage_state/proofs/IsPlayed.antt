@@ -14,6 +14,7 @@ use Rattle.stage_state.specs.Machine.{Machine, machine_from, document, standing,
 use Rattle.stage_state.specs.Staged.{Staged, acts_of, first_machine, machine, with_act, IsStagePlayed}
 use Rattle.stage_state.proofs.Machine.{acts_of-one_more, doc_told-one_more}
 
+-- placed acts with one more that can be placed
 pub played-one_more : (acts : List Act) (a : Act) (m : Machine) → IsPlayed m acts → CanAct (after_acts acts m) a → IsPlayed m (acts ++ a ∷ [])
 played-one_more [] a m played can = (can, tt)
 played-one_more (b ∷ acts) a m played can = (played.0, played-one_more acts a (after_act b m) played.1 can)
@@ -22,6 +23,7 @@ played-one_more (b ∷ acts) a m played can = (played.0, played-one_more acts a 
 pub stage_placed : (seat : ℕ) (a : Act) (s : Staged) → IsStagePlayed s → CanAct (machine s) a → IsStagePlayed (with_act seat a s)
 stage_placed seat a s played can = rw (acts_of-one_more s.acts seat a) (played-one_more (acts_of s.acts) a (first_machine s) played can)
 
+-- a front of placed acts is placed, and the rest behind it
 pub played_front : (xs ys : List Act) (m : Machine) → IsPlayed m (xs ++ ys) → IsPlayed m xs × IsPlayed (after_acts xs m) ys
 played_front [] ys m played = (tt, played)
 played_front (a ∷ xs) ys m played = let rest = played_front xs ys (after_act a m) played.1 in ((played.0, rest.0), rest.1)
@@ -51,9 +53,11 @@ act_fits act.Next m can f = sent_fits m.outgoing m f
 act_fits act.Finish m can f = f
 act_fits act.Halt m can f = f
 
+-- placed acts keep the unconfirmed operations fitting the document
 pub acts_fit : (acts : List Act) (m : Machine) → IsPlayed m acts → PendingFits m → PendingFits (after_acts acts m)
 acts_fit [] m played f = f
 acts_fit (a ∷ acts) m played f = acts_fit acts (after_act a m) played.1 (act_fits a m played.0 f)
 
+-- from a start on, the unconfirmed operations fit the document
 pub run_fits : (own joined start : ℕ) (text : Marked) (acts : List Act) → IsPlayed (machine_from own joined start text) acts → PendingFits (after_acts acts (machine_from own joined start text))
 run_fits own joined start text acts played = acts_fit acts (machine_from own joined start text) played tt

@@ -40,6 +40,7 @@ act_kept seat a s old new acts after room made left last is can does keeps one_m
     ap (λ f. last_acts f new.halted) marks.finishing ∙ ap (last_acts old.finishing) marks.halted in
     act_stage seat a s old new acts after room left is can does keeps one_more (omega (arith, same, count, ready, push))
 
+-- what is kept, behind a local edit
 pub type_stage : (seat : ℕ) (op : Change) (s : Staged) (old new : KeptValue) (acts : List (ℕ × Act)) (room made left last : ℕ)
     → IsStage s old room → (old.finishing || (old.halted || old.gone)) ≡ false → CanEdit old.client op → Keeps new (type_op op (machine s))
     → acts ≡ s.acts ++ (seat, act.Typed op) ∷ [] → KeepsMarks old new → last ≡ last_acts old.finishing old.halted → made ≡ max (last + 1) room → left + 1 ≡ made
@@ -48,6 +49,7 @@ type_stage seat op s old new acts room made left last is «open» fits keeps one
     act_kept seat (act.Typed op) s old new acts (type_op op (machine s)) room made left last is
     (sym (closed_is old (machine s) is.keeps) ∙ «open», fits ∙ ap length (held_is old (machine s) is.keeps)) refl keeps one_more marks count ready push
 
+-- what is kept, behind an entry
 pub take_stage : (seat : ℕ) (e : Entry) (s : Staged) (old new : KeptValue) (acts : List (ℕ × Act)) (room made left last : ℕ)
     → IsStage s old room → old.gone ≡ false → CanTake old.client e → Keeps new (take_entry e (machine s))
     → acts ≡ s.acts ++ (seat, act.Take e) ∷ [] → KeepsMarks old new → last ≡ last_acts old.finishing old.halted → made ≡ max (last + 1) room → left + 1 ≡ made
@@ -56,6 +58,7 @@ take_stage seat e s old new acts room made left last is stays fits keeps one_mor
     act_kept seat (act.Take e) s old new acts (take_entry e (machine s)) room made left last is
     (sym is.keeps.gone_is ∙ stays, subst (λ (c : Standing). CanTake c e) (client_is old (machine s) is.keeps) fits) refl keeps one_more marks count ready push
 
+-- what is kept, behind `finish`
 pub finish_stage : (seat : ℕ) (s : Staged) (old new : KeptValue) (acts : List (ℕ × Act)) (room left : ℕ)
     → IsStage s old room → old.finishing ≡ false → new ≡ record old { finishing = true } → acts ≡ s.acts ++ (seat, act.Finish) ∷ [] → left + 1 ≡ room
     → IsStage (record s { own = new.client.own; acts = acts }) new left
@@ -65,6 +68,7 @@ finish_stage seat s old new acts room left is first e one_more push =
     (act_stage seat act.Finish s old (record old { finishing = true }) acts (record (machine s) { finishing = true }) room left is
     (sym is.keeps.finishing_is ∙ first) refl (keeps_finished old (machine s) is.keeps) one_more (omega (arith, fit, push)))
 
+-- what is kept, behind `halt`
 pub halt_stage : (seat : ℕ) (s : Staged) (old new : KeptValue) (acts : List (ℕ × Act)) (room left : ℕ)
     → IsStage s old room → old.halted ≡ false → new ≡ record old { halted = true } → acts ≡ s.acts ++ (seat, act.Halt) ∷ [] → left + 1 ≡ room
     → IsStage (record s { own = new.client.own; acts = acts }) new left

@@ -31,6 +31,7 @@ client_is k m h =
     ∙ ap (λ text. record { own = m.own; state = m.pending; held = text; taken = c.taken }) (held_is k m h)
     ∙ ap (λ count. record { own = m.own; state = m.pending; held = held m; taken = count }) h.taken_is
 
+-- whether a stage asks no more is its machine's
 pub closed_is : (k : KeptValue) (m : Machine) → Keeps k m → (k.finishing || (k.halted || k.gone)) ≡ is_closed m
 closed_is k m h =
     ap (λ f. f || (k.halted || k.gone)) h.finishing_is
@@ -39,6 +40,7 @@ closed_is k m h =
 
 -- ---- acts
 
+-- what is kept is the machine's, with calls that join those to go out
 pub keeps_asked : (k : KeptValue) (m : Machine) (calls : List Call) → Keeps k m → Keeps (record k { outgoing = k.outgoing ++ calls }) (ask calls m)
 keeps_asked k m calls h = record {
   own = h.own;
@@ -53,6 +55,7 @@ keeps_asked k m calls h = record {
   sent_is = h.sent_is;
 }
 
+-- what is kept is the machine's, behind a local edit
 pub keeps_typed : (k : KeptValue) (m : Machine) (op : Change) → CanEdit k.client op → Keeps k m
     → Keeps (record k { client = edited op k.client; outgoing = k.outgoing ++ edit_asked k.client.taken (sent_at_edit k.client.state op) }) (type_op op m)
 keeps_typed k m op can h = record {
@@ -111,9 +114,11 @@ taken_by false k m e by can stays h = record {
   sent_is = h.sent_is;
 }
 
+-- what is kept is the machine's, behind an entry
 pub keeps_taken : (k : KeptValue) (m : Machine) (e : Entry) → CanTake k.client e → k.gone ≡ false → Keeps k m → Keeps (kept_entered e k) (take_entry e m)
 keeps_taken k m e can stays h = taken_by (is_edit_of m.own e) k m e refl can stays h
 
+-- what is kept is the machine's, behind `finish`
 pub keeps_finished : (k : KeptValue) (m : Machine) → Keeps k m → Keeps (record k { finishing = true }) (record m { finishing = true })
 keeps_finished k m h = record {
   own = h.own;
@@ -128,6 +133,7 @@ keeps_finished k m h = record {
   sent_is = h.sent_is;
 }
 
+-- what is kept is the machine's, behind `halt`
 pub keeps_halted : (k : KeptValue) (m : Machine) → Keeps k m → Keeps (record k { halted = true }) (record m { halted = true })
 keeps_halted k m h = record {
   own = h.own;

@@ -24,14 +24,17 @@ use Rattle.stage_state.specs.Staged.{Staged, acts_of, first_machine, machine, wi
 
 -- ---- the list of acts
 
+-- the machine one act further
 pub after_acts-one_more : (acts : List Act) (a : Act) (m : Machine) → after_acts (acts ++ a ∷ []) m ≡ after_act a (after_acts acts m)
 after_acts-one_more [] a m = refl
 after_acts-one_more (b ∷ acts) a m = after_acts-one_more acts a (after_act b m)
 
+-- acts in two parts
 pub after_acts-append : (xs ys : List Act) (m : Machine) → after_acts (xs ++ ys) m ≡ after_acts ys (after_acts xs m)
 after_acts-append [] ys m = refl
 after_acts-append (a ∷ xs) ys m = after_acts-append xs ys (after_act a m)
 
+-- the acts alone, with one more
 pub acts_of-one_more : (acts : List (ℕ × Act)) (seat : ℕ) (a : Act) → acts_of (acts ++ (seat, a) ∷ []) ≡ acts_of acts ++ a ∷ []
 acts_of-one_more [] seat a = refl
 acts_of-one_more (b ∷ acts) seat a = ap (λ rest. b.1 ∷ rest) (acts_of-one_more acts seat a)
@@ -60,6 +63,7 @@ next_sent : (calls : List Call) (m : Machine) → Follows m (send_from calls m) 
 next_sent [] m = record { own = refl; joined = refl; start = refl; text = refl; taken_few = omega arith; sent_few = omega (arith, length-append m.sent (call.Leave ∷ [])) }
 next_sent (c ∷ calls) m = record { own = refl; joined = refl; start = refl; text = refl; taken_few = omega arith; sent_few = omega (arith, length-append m.sent (c ∷ [])) }
 
+-- what one act leaves as it was, and what it adds to at most
 pub act_follows : (a : Act) (m : Machine) → Follows m (after_act a m) 1
 act_follows (act.Typed op) m = record { own = refl; joined = refl; start = refl; text = refl; taken_few = omega arith; sent_few = omega arith }
 act_follows (act.Eval place) m = record { own = refl; joined = refl; start = refl; text = refl; taken_few = omega arith; sent_few = omega arith }
@@ -69,6 +73,7 @@ act_follows act.Next m = next_sent m.outgoing m
 act_follows act.Finish m = record { own = refl; joined = refl; start = refl; text = refl; taken_few = omega arith; sent_few = omega arith }
 act_follows act.Halt m = record { own = refl; joined = refl; start = refl; text = refl; taken_few = omega arith; sent_few = omega arith }
 
+-- what acts leave as they were, and what they add to at most
 pub acts_follow : (acts : List Act) (m : Machine) → Follows m (after_acts acts m) (length acts)
 acts_follow [] m = record { own = refl; joined = refl; start = refl; text = refl; taken_few = omega arith; sent_few = omega arith }
 acts_follow (a ∷ acts) m =
@@ -80,6 +85,7 @@ acts_follow (a ∷ acts) m =
 pub machine-own : (s : Staged) → (machine s).own ≡ s.own
 machine-own s = (acts_follow (acts_of s.acts) (first_machine s)).own
 
+-- the place of the join stays
 pub machine-joined : (s : Staged) → (machine s).joined ≡ s.joined
 machine-joined s = (acts_follow (acts_of s.acts) (first_machine s)).joined
 
@@ -95,15 +101,18 @@ taken_sent false e m = refl
 
 -- ---- what was taken
 
+-- the document that entries tell, one entry further
 pub doc_told-one_more : (m : Marked) (entries : List Entry) (e : Entry)
     → doc_told m (entries ++ e ∷ []) ≡ changed_by e.who (op_told e.deed) (doc_told m entries)
 doc_told-one_more m [] e = refl
 doc_told-one_more m (x ∷ entries) e = doc_told-one_more (changed_by x.who (op_told x.deed) m) entries e
 
+-- what goes out leaves the entries taken
 pub sent_entries : (calls : List Call) (m : Machine) → (send_from calls m).entries ≡ m.entries
 sent_entries [] m = refl
 sent_entries (c ∷ calls) m = refl
 
+-- an entry taken joins the entries
 pub taken_entries : (b : Bool) (e : Entry) (m : Machine) → (if b then take_own e m else take_other e m).entries ≡ m.entries ++ e ∷ []
 taken_entries true e m = refl
 taken_entries false e m = refl
@@ -123,11 +132,13 @@ entries-after_acts (act.Next ∷ acts) m =
 entries-after_acts (act.Finish ∷ acts) m = entries-after_acts acts (after_act act.Finish m)
 entries-after_acts (act.Halt ∷ acts) m = entries-after_acts acts (after_act act.Halt m)
 
+-- with nothing outstanding the held text is the document
 pub nothing_pending : (own : ℕ) (s : State) (m : Marked) → outstanding s ≡ None → pending_on own s m ≡ m
 nothing_pending own Synchronized m e = refl
 nothing_pending own (Awaiting u) m e = absurd (cc)
 nothing_pending own (WithBuffer u v) m e = absurd (cc)
 
+-- who has taken all entries of a legal log and awaits nothing holds its document
 pub held_all : (log : List Row) (own joined : ℕ) (acts : List Act) → IsLegal log → takes_of acts ≡ entries log
     → outstanding (after_acts acts (machine_from own joined 0 [])).pending ≡ None → held (after_acts acts (machine_from own joined 0 [])) ≡ doc log
 held_all log own joined acts legal all none =

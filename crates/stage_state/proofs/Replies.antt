@@ -40,6 +40,7 @@ differ_from m n e = grind (arith, nat_tests, e)
 
 -- ---- the error that the function says has its cause
 
+-- the refusal of a local edit that the function says has its cause
 pub type_caused : (m : Machine) (op : Change) → IsTypeCause m op (ask_error (type_refusal m op))
 type_caused m op = by_tests (is_closed m) (base op == length (held m)) refl refl
   where
@@ -48,6 +49,7 @@ type_caused m op = by_tests (is_closed m) (base op == length (held m)) refl refl
     by_tests false true p q = rw (p, q) (p, equal_from (base op) (length (held m)) q)
     by_tests false false p q = rw (p, q) (p, (refl, refl, differ_from (base op) (length (held m)) q))
 
+-- the refusal of an evaluation that the function says has its cause
 pub eval_caused : (m : Machine) (place : ℕ) → IsEvalCause m place (ask_error (eval_refusal m place))
 eval_caused m place = by_tests (is_closed m) (block_held place m) refl refl
   where
@@ -56,6 +58,7 @@ eval_caused m place = by_tests (is_closed m) (block_held place m) refl refl
     by_tests false None p q = rw (p, q) (p, refl, q)
     by_tests false (Some text) p q = rw (p, q) (p, rw q refl)
 
+-- the refusal of a reset that the function says has its cause
 pub reset_caused : (m : Machine) (text : List ℕ) → IsResetCause m text (ask_error (reset_refusal m))
 reset_caused m text = by_test (is_closed m) refl
   where
@@ -94,6 +97,7 @@ entry_caused : (m : Machine) (e : Entry) → m.gone ≡ false → e.at ≡ taken
 entry_caused m e here at true own = own_caused m e here at own (is_sent (op_told e.deed) (outstanding m.pending)) refl
 entry_caused m e here at false other = other_caused m e here at other (op_told e.deed) refl
 
+-- the refusal of an entry that the function says has its cause
 pub take_caused : (m : Machine) (e : Entry) → IsTakeCause m e (take_error (take_refusal m e))
 take_caused m e = by_tests m.gone (e.at == taken m) refl refl
   where
@@ -107,12 +111,15 @@ take_caused m e = by_tests m.gone (e.at == taken m) refl refl
 pub type_cause_is : (m : Machine) (op : Change) (a : StageError) → IsTypeCause m op a → a ≡ ask_error (type_refusal m op)
 type_cause_is m op a h = one_type_cause m op a (ask_error (type_refusal m op)) h (type_caused m op)
 
+-- a refusal of an evaluation with a cause is the one that the function says
 pub eval_cause_is : (m : Machine) (place : ℕ) (a : StageError) → IsEvalCause m place a → a ≡ ask_error (eval_refusal m place)
 eval_cause_is m place a h = one_eval_cause m place a (ask_error (eval_refusal m place)) h (eval_caused m place)
 
+-- a refusal of a reset with a cause is the one that the function says
 pub reset_cause_is : (m : Machine) (text : List ℕ) (a : StageError) → IsResetCause m text a → a ≡ ask_error (reset_refusal m)
 reset_cause_is m text a h = one_reset_cause m text a (ask_error (reset_refusal m)) h (reset_caused m text)
 
+-- a refusal of an entry with a cause is the one that the function says
 pub take_cause_is : (m : Machine) (e : Entry) (a : TakeError) → IsTakeCause m e a → a ≡ take_error (take_refusal m e)
 take_cause_is m e a h = one_take_cause m e a (take_error (take_refusal m e)) h (take_caused m e)
 
@@ -149,6 +156,7 @@ not_true : (b : Bool) → not b ≡ true → b ≡ false
 not_true true e = absurd (cc)
 not_true false e = refl
 
+-- an act that the function places can be placed
 pub placed_can : (m : Machine) (a : Act) → places m a ≡ true → CanAct m a
 placed_can m (act.Typed op) e = rw (none_is (type_refusal m op) e) at (type_caused m op)
 placed_can m (act.Eval place) e = rw (none_is (eval_refusal m place) e) at (eval_caused m place)
@@ -158,6 +166,7 @@ placed_can m act.Next e = send_is (next_of m) e
 placed_can m act.Finish e = not_true m.finishing e
 placed_can m act.Halt e = not_true m.halted e
 
+-- an act that can be placed is placed by the function
 pub can_placed : (m : Machine) (a : Act) → CanAct m a → places m a ≡ true
 can_placed m (act.Typed op) can = ap is_none (no_ask_error (type_refusal m op) (sym (type_cause_is m op fault.Memory can)))
 can_placed m (act.Eval place) can = ap is_none (no_ask_error (eval_refusal m place) (sym (eval_cause_is m place fault.Memory can)))
@@ -173,6 +182,7 @@ pub take_wanting : (m : Machine) (e : Entry) (given : Result (Option Block) Take
 take_wanting m e given cause is =
     can_placed m (act.Take e) (subst (λ (r : Result (Option Block) TakeError). IfErr r (IsTakeCause m e)) is cause)
 
+-- a fact that holds anyway holds of an error
 pub on_err : {T E P : Type 0} (r : Result T E) → P → OnErr r P
 on_err (Ok x) p = tt
 on_err (Err e) p = p
@@ -224,18 +234,21 @@ if_err_caused : {T E : Type 0} (given : Result T E) (P Q : E → Type 0) → ((e
 if_err_caused (Ok x) P Q f h = tt
 if_err_caused (Err e) P Q f h = f e h
 
+-- the call of a local edit plays its act
 pub type_plays : (seat : ℕ) (op : Change) (old new : Staged) (given : Result (Unit {0}) StageError) (r : Result (Unit {0}) AskRefusal)
     → OnOk given (new ≡ with_act seat (act.Typed op) old) → OnOk given (CanAct (machine old) (act.Typed op)) → OnErr given (new ≡ old) → IfErr given (IsTypeCause (machine old) op) → IsAskReply given r
     → Plays seat (act.Typed op) old new (reply.Typed r)
 type_plays seat op old new given r ok can err cause h =
     ask_plays seat (act.Typed op) old new reply.Typed (type_refusal (machine old) op) given r refl refl ok can err (if_err_caused given _ _ (type_cause_is (machine old) op) cause) h
 
+-- the call of an evaluation plays its act
 pub eval_plays : (seat place : ℕ) (old new : Staged) (given : Result (Unit {0}) StageError) (r : Result (Unit {0}) AskRefusal)
     → OnOk given (new ≡ with_act seat (act.Eval place) old) → OnOk given (CanAct (machine old) (act.Eval place)) → OnErr given (new ≡ old) → IfErr given (IsEvalCause (machine old) place) → IsAskReply given r
     → Plays seat (act.Eval place) old new (reply.Eval r)
 eval_plays seat place old new given r ok can err cause h =
     ask_plays seat (act.Eval place) old new reply.Eval (eval_refusal (machine old) place) given r refl refl ok can err (if_err_caused given _ _ (eval_cause_is (machine old) place) cause) h
 
+-- the call of a reset plays its act
 pub reset_plays : (seat : ℕ) (text : List ℕ) (old new : Staged) (given : Result (Unit {0}) StageError) (r : Result (Unit {0}) AskRefusal)
     → OnOk given (new ≡ with_act seat (act.Reset text) old) → OnOk given (CanAct (machine old) (act.Reset text)) → OnErr given (new ≡ old) → IfErr given (IsResetCause (machine old) text) → IsAskReply given r
     → Plays seat (act.Reset text) old new (reply.Reset r)
@@ -286,6 +299,7 @@ entry_plays seat e old new (Some x) (Err a) r is_o block ok can err cause h =
     refused_as (take.BadBase w g) (error.NotSent at) r c h = absurd (cc)
     refused_as (take.BadBase w g) (error.BadBase want got) r c h = let p : want ≡ w = cc in let q : got ≡ g = cc in h ∙ ap (λ n. Err (take.BadBase n got)) p ∙ ap (λ n. Err (take.BadBase w n)) q
 
+-- the call of an entry plays its act
 pub take_plays : (seat : ℕ) (e : Entry) (old new : Staged) (given : Result (Option Block) TakeError) (r : Result (Option Block) TakeRefusal)
     → IfOk given (λ b. b ≡ block_told old.joined e)
     → OnOk given (new ≡ with_act seat (act.Take e) old) → OnOk given (CanAct (machine old) (act.Take e)) → OnErr given (new ≡ old) → IfErr given (IsTakeCause (machine old) e) → IsTakeReply given r
@@ -294,6 +308,7 @@ take_plays seat e old new given r block ok can err cause h =
     entry_plays seat e old new (take_refusal (machine old) e) given r refl (subst (λ (n : ℕ). IfOk given (λ b. b ≡ block_told n e)) (sym (machine-joined old)) block) ok can err
     (if_err_caused given _ _ (take_cause_is (machine old) e) cause) h
 
+-- the call of `next` plays its act
 pub next_plays : (seat : ℕ) (old new : Staged) (n : Next) → n ≡ next_of (machine old) → new ≡ after_next seat n old → Plays seat act.Next old new (reply.Next n)
 next_plays seat old new n is e = record { reply = ap reply.Next is; acts = e ∙ by_next n is }
   where
@@ -302,10 +317,12 @@ next_plays seat old new n is e = record { reply = ap reply.Next is; acts = e ∙
     by_next next.NotYet is = sym (ap (λ (x : Next). if sends x then with_act seat act.Next old else old) (sym is))
     by_next next.Done is = sym (ap (λ (x : Next). if sends x then with_act seat act.Next old else old) (sym is))
 
+-- the call of `finish` plays its act
 pub finish_plays : (seat : ℕ) (old new : Staged) (b : Bool) → (machine old).finishing ≡ b → (b ≡ false → new ≡ with_act seat act.Finish old) → (b ≡ true → new ≡ old) → Plays seat act.Finish old new reply.Finish
 finish_plays seat old new true is first again = record { reply = refl; acts = kept_played seat act.Finish old new (ap not is) (again refl) }
 finish_plays seat old new false is first again = record { reply = refl; acts = placed_played seat act.Finish old new (ap not is) (first refl) }
 
+-- the call of `halt` plays its act
 pub halt_plays : (seat : ℕ) (old new : Staged) (b : Bool) → (machine old).halted ≡ b → (b ≡ false → new ≡ with_act seat act.Halt old) → (b ≡ true → new ≡ old) → Plays seat act.Halt old new reply.Halt
 halt_plays seat old new true is first again = record { reply = refl; acts = kept_played seat act.Halt old new (ap not is) (again refl) }
 halt_plays seat old new false is first again = record { reply = refl; acts = placed_played seat act.Halt old new (ap not is) (first refl) }
@@ -316,6 +333,7 @@ left_within : (b : Bool) (o n : ℕ) → o ≤ n → (if b then o - 1 else o) �
 left_within true o n more = omega arith
 left_within false o n more = more
 
+-- room that didn't shrink is enough
 pub kept_spare : (a : Act) (m : Machine) (o n : ℕ) → o ≤ n → spare_left a m o ≤ n
 kept_spare a m o n more = left_within (places m a && not (is_free a)) o n more
 
@@ -324,11 +342,13 @@ placed_spare a m o n paid can used =
     let yes : (places m a && not (is_free a)) ≡ true = ap (λ b. b && not (is_free a)) (can_placed m a can) ∙ ap not paid in
     subst (λ (b : Bool). (if b then o - 1 else o) ≤ n) (sym yes) (omega (arith, used))
 
+-- a call uses up no more room than its act
 pub call_spare : {T E : Type 0} (a : Act) (m : Machine) (o n : ℕ) (given : Result T E) → is_free a ≡ false → OnOk given (CanAct m a) → OnOk given (n ≡ o - 1)
     → OnErr given (o ≤ n) → spare_left a m o ≤ n
 call_spare a m o n (Ok x) paid can used more = placed_spare a m o n paid can used
 call_spare a m o n (Err e) paid can used more = kept_spare a m o n more
 
+-- `next` uses up no more room than its act, and none where nothing goes out
 pub next_spare : (m : Machine) (o n : ℕ) (x : Next) → x ≡ next_of m → (IsSend x → n ≡ o - 1) → (IsQuiet x → n ≡ o) → spare_left act.Next m o ≤ n
 next_spare m o n (next.Send num c) is used same = placed_spare act.Next m o n refl (subst (λ (x : Next). IsSend x) is tt) (used tt)
 next_spare m o n next.NotYet is used same = kept_spare act.Next m o n (omega (arith, same tt))

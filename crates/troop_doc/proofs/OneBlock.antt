@@ -101,6 +101,7 @@ block_round-some text place within some =
     let in_text : nat_lt (length text) place ≡ false = le-ltb (length text) place within in
     ap (λ past. block_in past (line_at text place) (lines_of text)) in_text ∙ rw some refl
 
+-- the block round a place is the text of the largest run of lines round it
 pub some-is_block : (text block : List ℕ) (place : ℕ) → block_round text place ≡ Some block → IsBlockRound text place block
 some-is_block text block place h =
     let n = line_at text place in
@@ -118,6 +119,7 @@ some-is_block text block place h =
         ]
     ]
 
+-- the text of the largest run of lines round a place is the block round it
 pub block-is_some : (text block : List ℕ) (place : ℕ) → IsBlockRound text place block → block_round text place ≡ Some block
 block-is_some text block place round =
     let within = place_in_text round in

@@ -32,15 +32,19 @@ zip-of (pair ∷ m) = ap (λ rest. pair ∷ rest) (zip-of m)
 abbrev pub pairs_of : Characters → Authorship → Marked
 pairs_of characters authorship = zip characters.chars authorship.marks
 
+-- the characters of the pairs
 pub text_of-pairs : {c : Characters} {a : Authorship} {ready : Room} → ArePaired c a ready → text_of (pairs_of c a) ≡ c.chars
 text_of-pairs {c} {a} paired = text_of-zip c.chars a.marks paired.even
 
+-- the marks of the pairs
 pub marks_of-pairs : {c : Characters} {a : Authorship} {ready : Room} → ArePaired c a ready → marks_of (pairs_of c a) ≡ a.marks
 marks_of-pairs {c} {a} paired = marks_of-zip c.chars a.marks paired.even
 
+-- there are as many pairs as characters
 pub length-pairs : {c : Characters} {a : Authorship} {ready : Room} → ArePaired c a ready → length (pairs_of c a) ≡ length c.chars
 length-pairs {c} {a} paired = length-zip c.chars a.marks paired.even
 
+-- equal pairs have equal characters and marks
 pub pairs-cancel : {c d : Characters} {a b : Authorship} {ready other : Room} → ArePaired c a ready → ArePaired d b other
     → pairs_of c a ≡ pairs_of d b → (c.chars ≡ d.chars) × (a.marks ≡ b.marks)
 pairs-cancel paired others e =
@@ -57,6 +61,7 @@ effect-pairs {c} {a} paired who change =
     map-effect (λ (pair : ℕ × ℕ). pair.1) (marked who) change (pairs_of c a) ∙ ap (effect (mark_by who) change) (marks_of-pairs paired) in
     rw (← chars, ← marks) (zip-of made)
 
+-- an operation leaves as many characters as marks
 pub length-effects : {c : Characters} {a : Authorship} {ready : Room} → ArePaired c a ready → (who : ℕ) (change : Change) → base change ≡ length c.chars
     → length (effect plain change c.chars) ≡ length (effect (mark_by who) change a.marks)
 length-effects {c} {a} paired who change e =

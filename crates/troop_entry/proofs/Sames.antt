@@ -17,6 +17,7 @@ lang_decides lang.Lines lang.Ghci = (λ no. cc, λ e. cc)
 lang_decides lang.Ghci lang.Lines = (λ no. cc, λ e. cc)
 lang_decides lang.Ghci lang.Ghci = (λ _. refl, λ _. refl)
 
+-- the test of calls decides whether they are equal
 pub call_decides : (a b : Call) → Decides (same_call a b) (a ≡ b)
 call_decides (call.Join name lang) (call.Join other of) =
     both (same_text name other) (same_lang lang of) name other lang of call.Join (text_decides name other) (lang_decides lang of) (λ is. (cc, cc))

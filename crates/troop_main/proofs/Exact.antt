@@ -32,6 +32,7 @@ too_much outcome.WriteFault code bytes taken input out is says same found = (λ 
 too_much outcome.TooMuch code bytes taken input out is says same found = (λ _. omega (arith, says.0, same), λ _. is)
 too_much (outcome.Unbuilt n) code bytes taken input out is says same found = (λ e. absurd (omega (arith, is, e)), λ long. absurd (omega (arith, says.0.0, same, long)))
 
+-- status 10 is exact
 pub too_much_is_exact : TooMuchExactly
 too_much_is_exact code input out err run taken left before after found =
     too_much run.outcome code run.bytes taken input out run.code_is run.says (taken_length run.bytes taken left input run.given before after) found
@@ -70,6 +71,7 @@ unbuilt (outcome.Unbuilt m) code bytes all input out err is says given reported 
     let at_m : IsUnbuiltAt all m = subst (λ b. IsUnbuiltAt b m) (sym (whole bytes all input.after given says.1)) says.0 in
     (λ _. (m, at_m), λ n at_n. (is, subst (λ k. Reported err (error_line (outcome.Unbuilt k))) (same_number all m n at_m.1 at_n.1) reported))
 
+-- status 12 is exact
 pub unbuilt_is_exact : UnbuiltExactly
 unbuilt_is_exact code input out err run all before calm found =
     unbuilt run.outcome code run.bytes all input out err run.code_is run.says (sym before ∙ run.given) run.reported calm found

@@ -59,5 +59,6 @@ all_from k (line ∷ others) none = all_by_line k line others (is_unbuilt (meani
 as_first : (script : List (List ℕ)) (n : ℕ) → IsFirstFrom 1 script n → IsFirstUnbuilt script n
 as_first script n r = record { before = r.before; line = r.line; behind = r.behind; splits = r.splits; number = r.number; built = r.built; unbuilt = r.unbuilt }
 
+-- the first line that isn't built is one, and none before it is
 pub first_is_unbuilt : FirstUnbuilt
 first_is_unbuilt script = (λ n found. as_first script n (first_from 1 n script found), λ none. all_from 1 script none)

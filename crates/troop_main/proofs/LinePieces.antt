@@ -24,6 +24,7 @@ lines_of_piece (b ∷ piece) rest none =
     let test = no_feed (b == line_feed) (list_any (λ d. d == line_feed) piece) none in
     rw test.0 (ap (onto_first_line b) (lines_of_piece piece rest test.1))
 
+-- the lines are the pieces
 pub lines_are_pieces : LinesArePieces
 lines_are_pieces [] last all none = lines_of_last last none
 lines_are_pieces (piece ∷ pieces) last all none =

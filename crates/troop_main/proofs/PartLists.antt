@@ -69,13 +69,16 @@ too_large all rest d ds built part r split is_part no_fit =
     sym (ap (λ p. option_and_then op_of_parts p) (parts_more all rest d ds r.done part r.parts split is_part)
     ∙ over_option (r.done ++ part ∷ []) (parts_of_list ds) (omega (arith, long, base_of-one_more r.done part, ap base r.is ∙ base-norm r.done)))
 
+-- the base of what was read so far is within the limit
 pub built_small : (all rest : List Data) (built : Change) → IsReadSoFar all rest built → base built ≤ most_count
 built_small all rest built r = omega (arith, ap base r.is ∙ base-norm r.done, r.small)
 
+-- the rest of the items, with its first
 pub split_items : (items : List Value) (i : ℕ) (value : Value) → i < length items → value ≡ get_or items i value → map view (drop i items) ≡ view value ∷ map view (drop (i + 1) items)
 split_items items i value within item =
     ap (map view) (drop-cons items i value within ∙ ap (λ v. v ∷ drop (suc i) items) (sym item) ∙ ap (λ k. value ∷ drop k items) (sym (add-one i)))
 
+-- the elements of an array are the views of its items
 pub elements-items : (values : List Value) → elements (items_view values) ≡ map view values
 elements-items [] = refl
 elements-items (v ∷ values) = ap (λ l. view v ∷ l) (elements-items values)

@@ -9,13 +9,16 @@ use Rattle.author_marks.specs.declared.run.Run.{Run}
 use Rattle.author_marks.specs.Runs.{run_of}
 use Rattle.troop_main.specs.Print.{run_data, document_data, server_data}
 
+-- runs have no float
 pub runs_have_none : (runs : List Run) → items_have_float (items_of (map run_data runs)) ≡ false
 runs_have_none [] = refl
 runs_have_none (run ∷ runs) = runs_have_none runs
 
+-- the server's line has no float
 pub no_float : (entries : ℕ) (runs : List Run) (marks d : Data) (text : List ℕ) → marks ≡ array (items_of (map run_data runs)) → d ≡ document_data entries marks text → has_float d ≡ false
 no_float entries runs marks d text is_marks is = rw (is, is_marks, runs_have_none runs)
 
+-- the value that is printed is the server's line's
 pub document_is : (entries n : ℕ) (m held : Marked) (runs : List Run) (marks d : Data) (text string : List ℕ) → entries ≡ n → held ≡ m → runs ≡ map run_of (runs_of (marks_of held)) → marks ≡ array (items_of (map run_data runs))
     → text ≡ text_of held → string ≡ encode_utf8_all text → d ≡ document_data entries marks string → d ≡ server_data n m
 document_is entries n m held runs marks d text string is_count is_held is_runs is_marks is_text is_string is =

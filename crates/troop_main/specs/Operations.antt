@@ -17,6 +17,7 @@ part_of_int (negsuc n) = Delete (suc n)
 abbrev pub part_of_number : Data → Option Part
 part_of_number d = option_map part_of_int (option_and_then as_i64 (as_number d))
 
+-- an insert of the string, if there is one, and else the part of a number
 abbrev pub part_or : Option (List ℕ) → Data → Option Part
 part_or (Some string) d = Some (Insert (chars string))
 part_or None d = part_of_number d
@@ -34,6 +35,7 @@ parts_of_list (d ∷ ds) = option_and_then (λ part. option_map (λ parts. part 
 abbrev pub op_of_parts : List Part → Option Change
 op_of_parts parts = if nat_le (base_of parts) most_count then Some (norm parts) else None
 
+-- the operation of an array's elements
 abbrev pub op_of_list : List Data → Option Change
 op_of_list ds = option_and_then op_of_parts (parts_of_list ds)
 

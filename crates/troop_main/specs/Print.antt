@@ -30,24 +30,31 @@ document_data entries marks text =
 abbrev pub server_data : ℕ → Marked → Data
 server_data entries m = document_data entries (runs_data m) (encode_utf8_all (text_of m))
 
+-- that value as a line
 abbrev pub server_line : ℕ → Marked → List ℕ
 server_line entries m = line_of (server_data entries m)
 
+-- the call stands at this position since an earlier time, and is this performer's
 abbrev pub kept_data : ℕ → ℕ → Data
 kept_data at who = object (member (codes "at") (number (unsigned at)) (member (codes "kept") (boolean true) (member (codes "who") (number (unsigned who)) no_members)))
 
+-- another call stands at this position under that number
 abbrev pub clash_data : ℕ → ℕ → Data
 clash_data num at = object (member (codes "at") (number (unsigned at)) (member (codes "no") (string (codes "clash")) (member (codes "num") (number (unsigned num)) no_members)))
 
+-- this performer has not joined, or has left
 abbrev pub member_data : ℕ → Data
 member_data who = object (member (codes "no") (string (codes "member")) (member (codes "who") (number (unsigned who)) no_members))
 
+-- the call has seen more rows than there are
 abbrev pub ahead_data : ℕ → ℕ → Data
 ahead_data seen n = object (member (codes "length") (number (unsigned n)) (member (codes "no") (string (codes "ahead")) (member (codes "seen") (number (unsigned seen)) no_members)))
 
+-- the edit is for a text of another length
 abbrev pub base_data : ℕ → ℕ → Data
 base_data want got = object (member (codes "got") (number (unsigned got)) (member (codes "no") (string (codes "base")) (member (codes "want") (number (unsigned want)) no_members)))
 
+-- the log has as many joins as it takes
 abbrev pub crowded_data : ℕ → Data
 crowded_data joins = object (member (codes "joins") (number (unsigned joins)) (member (codes "no") (string (codes "crowded")) no_members))
 

@@ -25,6 +25,7 @@ abbrev pub num_by : Option Data → Option ℕ
 num_by None = Some 0
 num_by (Some d) = count_of d
 
+-- its number
 abbrev pub num_of : Data → Option ℕ
 num_of d = num_by (get (codes "num") d)
 
@@ -32,12 +33,15 @@ num_of d = num_by (get (codes "num") d)
 abbrev pub text_field : Data → Option (List ℕ)
 text_field d = option_and_then text_of (get (codes "text") d)
 
+-- the edit of a request, by its keys `seen` and `op`
 abbrev pub edit_of : Data → Option Call
 edit_of d = option_and_then (λ seen. option_map (λ op. call.Edit seen op) (op_field d)) (seen_of d)
 
+-- the evaluation of a request, by its keys `seen` and `text`
 abbrev pub eval_of : Data → Option Call
 eval_of d = option_and_then (λ seen. option_map (λ text. call.Eval seen text) (text_field d)) (seen_of d)
 
+-- the reset of a request, by its keys `seen` and `text`
 abbrev pub reset_of : Data → Option Call
 reset_of d = option_and_then (λ seen. option_map (λ text. call.Reset seen text) (text_field d)) (seen_of d)
 
