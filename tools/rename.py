@@ -58,6 +58,9 @@ def renamed(part, old, new):
             return match.group(0)
         if re.search(r"(?m)^\s+pub $", before[-40:]) and re.match(r"\s*:", behind):
             return match.group(0)
+        line = before[before.rfind("\n") + 1:]
+        if re.search(r"(?:^|\s)(?:--|//)\s", line) and not before.endswith("`"):
+            return match.group(0)
         return new
     return word(old).sub(put, part)
 
