@@ -33,10 +33,11 @@ pub fn judge(alloc: Global, case: &Case) -> Result<Verdict, AllocError> {
     for (i, turn) in case.turns.iter().enumerate() {
         let verdict = judge_run(alloc, case, turn)?;
         if !verdict.holds {
+            let number = i + 1;
             let told = verdict.told.as_str();
             return Ok(Verdict {
                 holds: false,
-                told: format!(in alloc; "turn {i}: {told}")?,
+                told: format!(in alloc; "run {number}: {told}")?,
             });
         }
     }

@@ -7,7 +7,7 @@ ghost use Rattle.troop_main.specs.Values.{most_count};
 ghost use Rattle.troop_main.specs.Operations.{part_of_int, part_of, op_of_list, op_of};
 
 use crate::values::MOST_COUNT;
-use ot_text::{MAX_LEN, Op, OpBuilder, Part, Text};
+use ot_text::{Op, OpBuilder, Part, Text};
 use serde_json::Value;
 use std::alloc::{AllocError, Global};
 
@@ -64,28 +64,16 @@ fn put_part(builder: &mut OpBuilder, part: &Part) -> Result<bool, AllocError>
     ensures fits { IfOk result (λ fits. fits ≡ nat_le (base builder.old + passed_by part.now) most_count) }
     ensures put { IfOk result (λ fits. fits ≡ true → builder.new ≡ then builder.old (part_then part.now nothing)) }
 {
-    match part {
-        Part::Retain(count) => {
-            if *count > MOST_COUNT - builder.base() {
-                return Ok(false);
-            }
-            if *count > MAX_LEN - builder.target() {
-                return Err(AllocError);
-            }
-            builder.retain(*count)?;
-        }
-        Part::Insert(text) => {
-            if text.len() > MAX_LEN - builder.target() {
-                return Err(AllocError);
-            }
-            builder.insert(text)?;
-        }
-        Part::Delete(count) => {
-            if *count > MOST_COUNT - builder.base() {
-                return Ok(false);
-            }
-            builder.delete(*count)?;
-        }
+    let passed = match part {
+        Part::Retain(count) | Part::Delete(count) => *count,
+        Part::Insert(_) => 0,
+    };
+    if passed > MOST_COUNT - builder.base() {
+        return Ok(false);
     }
-    Ok(true)
+    if builder.try_put(part)? {
+        Ok(true)
+    } else {
+        Err(AllocError)
+    }
 }
