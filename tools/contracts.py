@@ -15,6 +15,7 @@ TOP = os.path.dirname(os.path.dirname(os.path.abspath(__file__)))
 PAGE = "docs/CONTRACTS.md"
 WORD = re.compile(r"[A-Za-z_][A-Za-z0-9_']*")
 USE = re.compile(r"use Rattle\.(\w+)\.(specs|proofs)\.([\w.]+?)(?:\.\{([^}]*)\}|\s+as\s+\w+|;|$)", re.M)
+NAMED = re.compile(r"\b(\w+)(?:::<[^>(]*>)?\(")
 DEFINITION = re.compile(r"^(?:abbrev pub|unfoldable pub|pub data|pub record) ([A-Za-z_][A-Za-z0-9_'-]*)", re.M)
 
 
@@ -298,13 +299,10 @@ def faults(names, definitions, calls, made):
             found.append(f"{name} is defined {len(ones)} times: " + ", ".join(f"{d.path}:{d.line}" for d in ones))
     tested = set()
     for crate in names:
+        is_program = os.path.exists(os.path.join(TOP, f"crates/{crate}/src/main.rt"))
         for file in files(f"crates/{crate}/src", ".rt"):
-            text = read(file)
-            at = text.find("#[cfg(test)]\nmod tests {")
-            if "/tests" in file or file.endswith("/main.rt"):
-                tested |= set(WORD.findall(text))
-            elif at >= 0:
-                tested |= set(WORD.findall(text[at:]))
+            if is_program or "/tests" in file:
+                tested |= set(NAMED.findall(read(file)))
     for call in calls:
         if call.name not in tested:
             found.append(f"{call.path}:{call.line}: no test names {call.title()}")

@@ -1,5 +1,8 @@
 //! The worked examples.
-use crate::{ApplyError, Op, OpBuilder, Part, Text, apply, effect_law};
+use crate::{
+    ApplyError, NewElement, Op, OpBuilder, Part, Text, apply, effect_law, equal_images_law, gaps_law,
+    norm_append_law, norm_law, normal_form_law, rewrite, room_law, same_op_law,
+};
 use std::alloc::{AllocError, Global};
 use std::process::Abort;
 use std::test::Fail;
@@ -66,9 +69,9 @@ fn assert_makes(
 
 #[test]
 fn applies_to_a_text_of_its_base(rt: HostRuntime) -> Result<(), Fail> {
-    effect_law::<char>();
     let alloc = rt.alloc();
     let big = op(alloc, &[Keep(5), Put(" big"), Keep(6)])?;
+    assert_eq!(rt; (big.inserted(), big.insert_count()), (4, 1));
     let hello = Text::of(alloc, "hello world")?;
     assert_makes(
         &rt,
@@ -137,4 +140,39 @@ fn neighbours_of_one_kind_are_one_part(rt: HostRuntime) -> Result<(), Fail> {
         _ => assert!(rt; false, "other parts"),
     }
     Ok(())
+}
+
+// A new character as its code.
+struct Code;
+
+impl NewElement<u32> for Code {
+    ghost element_of = { λ _ c. c };
+
+    fn make(&self, character: char) -> u32 {
+        u32::from(character)
+    }
+}
+
+#[test]
+fn a_list_of_numbers_is_rewritten(rt: HostRuntime) -> Result<(), Fail> {
+    let alloc = rt.alloc();
+    let behind = op(alloc, &[Keep(1), Put("b")])?;
+    assert_eq!(rt; behind.base(), 1);
+    let mut made = Vec::new(alloc);
+    made.reserve(behind.target() as usize)?;
+    rewrite(&mut made, &[7], &behind, &Code);
+    assert_eq!(rt; made.as_slice(), [7, 98].as_slice());
+    Ok(())
+}
+
+#[test]
+fn each_law_is_called(_rt: HostRuntime) {
+    effect_law::<char>();
+    equal_images_law();
+    gaps_law();
+    norm_append_law();
+    norm_law();
+    normal_form_law();
+    room_law();
+    same_op_law();
 }

@@ -2,7 +2,7 @@
 use crate::plain::{gaps_of, image_of, moved};
 use crate::{
     chain_law, compose, composed_image_law, composition_law, diamond_law, left_of, left_through,
-    lengths_law, merge_law, transform, transform_gaps_law,
+    lengths_law, merge_law, places_law, transform, transform_gaps_law, try_left_of, try_transform,
 };
 use ot_text::{ApplyError, Op, OpBuilder, Part, Text, apply};
 use std::alloc::{AllocError, Global};
@@ -279,4 +279,18 @@ fn laws_hold_of_characters(_rt: HostRuntime) {
     composed_image_law();
     chain_law();
     lengths_law();
+    places_law();
+}
+
+#[test]
+fn a_tie_fits(rt: HostRuntime) -> Result<(), Fail> {
+    let alloc = rt.alloc();
+    let a = op(alloc, &[Put("a")])?;
+    let b = op(alloc, &[Put("b")])?;
+    assert!(&rt; a.base() == b.base());
+    let (left, right) = try_transform(alloc, &a, &b)?;
+    assert!(&rt; left.same(&op(alloc, &[Put("a"), Keep(1)])?));
+    assert!(&rt; right.same(&op(alloc, &[Keep(1), Put("b")])?));
+    assert!(&rt; try_left_of(alloc, &a, &b)?.same(&left));
+    Ok(())
 }

@@ -32,6 +32,7 @@ fn a_call_equals_its_copy_and_not_one_that_has_seen_more(rt: HostRuntime) -> Res
         seen: 4,
         op: removing(rt.alloc(), 1)?,
     };
+    same_call_law();
     assert!(rt; call.same(&call.try_clone()?));
     assert!(rt; !call.same(&later));
     Ok(())
@@ -69,7 +70,11 @@ fn a_leave_has_seen_its_own_place(rt: HostRuntime) -> Result<(), Fail> {
         call: Call::Leave,
         op: None,
     };
-    assert_eq!(rt; entry_of(rt.alloc(), 5, &row)?.seen, 5);
+    assert!(rt; row.call.is_leave() && !row.call.is_join());
+    let entry = entry_of(rt.alloc(), 5, &row)?;
+    assert_eq!(rt; entry.seen, 5);
+    assert!(rt; entry.is_leave_of(2) && !entry.is_leave_of(1));
+    assert!(rt; entry.block_told(0)?.is_none());
     Ok(())
 }
 

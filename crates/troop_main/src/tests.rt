@@ -1,5 +1,8 @@
 //! What no file shows: the words, and streams that come in pieces, fail or have no room.
-use crate::troop;
+use crate::{
+    Outcome, done_exactly, faults_exactly, first_unbuilt_law, lines_law, too_much_exactly, troop,
+    unbuilt_exactly,
+};
 use std::alloc::Global;
 use std::test::Fail;
 use troop_ports::{BytesSink, BytesSource};
@@ -105,4 +108,19 @@ fn words_and_streams_decide_how_a_run_ends(rt: HostRuntime) -> Result<(), Fail> 
         assert_eq!(rt; err.bytes(), run.err.as_bytes());
     }
     Ok(())
+}
+
+#[test]
+fn each_law_is_called(_rt: HostRuntime) {
+    done_exactly();
+    faults_exactly();
+    first_unbuilt_law();
+    lines_law();
+    too_much_exactly();
+    unbuilt_exactly();
+}
+
+#[test]
+fn too_much_input_is_status_10(rt: HostRuntime) {
+    assert_eq!(rt; Outcome::TooMuch.status().code, 10);
 }
