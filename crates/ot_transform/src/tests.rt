@@ -1,7 +1,7 @@
 //! The worked examples: each row has what a person worked out for it by hand.
 use crate::plain::{gaps_of, image_of, moved};
 use crate::{
-    chain_law, compose, composed_image_law, composition_law, diamond_law, left_of, left_through,
+    chain_law, compose, composed_image_law, composition_law, diamond_law, left_through,
     lengths_law, merge_law, places_law, transform, transform_gaps_law, try_left_of, try_transform,
 };
 use ot_text::{ApplyError, Op, OpBuilder, Part, Text, apply};
@@ -147,12 +147,15 @@ const ROWS: &[Row] = &[
 fn check(rt: &impl Abort, alloc: Global, row: &Row) -> Result<(), Fail> {
     let a = op(alloc, row.a)?;
     let b = op(alloc, row.b)?;
-    assert!(rt; a.base() == b.base() && a.base() < 100 && a.inserted() < 100);
-    assert!(rt; b.inserted() < 100 && b.target() < 200);
-    let (left, right) = transform(alloc, &a, &b)?;
+    assert!(rt; a.base() == b.base());
+    let (left, right) = try_transform(alloc, &a, &b)?;
     assert!(rt; left.same(&op(alloc, row.left)?), "left on {}", row.text);
     assert!(rt; right.same(&op(alloc, row.right)?), "right on {}", row.text);
-    assert!(rt; left_of(alloc, &a, &b)?.same(&left), "left on {}", row.text);
+    assert!(rt;
+        try_left_of(alloc, &a, &b)?.same(&left),
+        "left on {}",
+        row.text
+    );
     let a_first = check_in_a_row(rt, alloc, row, &a, &right)?;
     let b_first = check_in_a_row(rt, alloc, row, &b, &left)?;
     assert!(rt; a_first.same(&b_first), "both ways on {}", row.text);
@@ -280,17 +283,4 @@ fn laws_hold_of_characters(_rt: HostRuntime) {
     chain_law();
     lengths_law();
     places_law();
-}
-
-#[test]
-fn a_tie_fits(rt: HostRuntime) -> Result<(), Fail> {
-    let alloc = rt.alloc();
-    let a = op(alloc, &[Put("a")])?;
-    let b = op(alloc, &[Put("b")])?;
-    assert!(&rt; a.base() == b.base());
-    let (left, right) = try_transform(alloc, &a, &b)?;
-    assert!(&rt; left.same(&op(alloc, &[Put("a"), Keep(1)])?));
-    assert!(&rt; right.same(&op(alloc, &[Keep(1), Put("b")])?));
-    assert!(&rt; try_left_of(alloc, &a, &b)?.same(&left));
-    Ok(())
 }
