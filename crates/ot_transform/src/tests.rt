@@ -1,7 +1,7 @@
 //! The worked examples: each row has what a person worked out for it by hand.
 use crate::plain::{gaps_of, image_of, moved};
 use crate::{
-    chain_law, compose, composed_image_law, composition_law, diamond_law, left_through,
+    chain_law, compose, composed_image_law, composition_law, diamond_law, left_of, left_through,
     lengths_law, merge_law, places_law, transform, transform_gaps_law, try_left_of, try_transform,
 };
 use ot_text::{ApplyError, Op, OpBuilder, Part, Text, apply};
@@ -231,6 +231,7 @@ fn an_edit_moves_through_a_run(rt: HostRuntime) -> Result<(), Fail> {
     assert!(&rt; left_through(alloc, &edit, &[])?.same(&edit));
     let behind_reset = left_through(alloc, &edit, &run[..1])?;
     assert!(&rt; behind_reset.same(&op(alloc, &[Keep(3), Put("X")])?));
+    assert!(&rt; left_of(alloc, &edit, &run[0])?.same(&behind_reset));
     let behind_both = left_through(alloc, &edit, &run)?;
     assert!(&rt; behind_both.same(&op(alloc, &[Keep(2), Put("X"), Keep(1)])?));
     Ok(())
