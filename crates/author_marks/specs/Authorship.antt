@@ -11,6 +11,7 @@ pub record Authorship : Type 0 where
 abbrev pub mark_by : ℕ → ℕ → ℕ
 mark_by who c = who
 
--- the room in a list of this capacity for what is put into one of this length, where a run takes no more than a character
+-- the room in a list of this capacity for what is put into one of this length: for as many characters as fit behind that, and
+-- for two runs with each of them, and one; a list that is longer than the capacity has none
 abbrev pub room_of : ℕ → ℕ → Room
 room_of capacity length = record { characters = capacity - length; runs = 1 + 2 * capacity - 2 * length }

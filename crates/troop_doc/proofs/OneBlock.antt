@@ -1,11 +1,11 @@
 -- The block round a place, and that there is no other.
-use Rattle.std.proofs.Common.{◌≡◌, ◌≢◌, inl, inr, ℕ, ◌+◌, ◌-◌, ◌<◌, ◌≤◌, Bool, true, false, Some, None, List, [], ◌++◌, length, get_or, take, drop, refl, sym, ap, ◌∙◌, append_assoc, length-append, arith}
+use Rattle.std.proofs.Common.{◌≡◌, inl, inr, ℕ, ◌+◌, ◌-◌, ◌<◌, ◌≤◌, true, false, Some, None, List, [], ◌++◌, length, take, drop, refl, sym, ap, ◌∙◌, append_assoc, length-append, arith}
 use Rattle.std.specs.Prelude.{nat_lt}
 use Rattle.std.specs.List.{join_with_byte}
 use Rattle.std.proofs.lemmas.Bool.{cases_Bool, cases_order, false≢true, le-ltb, ltb-false}
 use Rattle.std.proofs.lemmas.List.{take_at, drop_at, get_or_append_left, get_or-append_right}
 use Rattle.troop_doc.specs.declared.block.TheConstants.{LINE_FEED}
-use Rattle.troop_doc.specs.Lines.{lines_of, line_at, line_of, LiesOn}
+use Rattle.troop_doc.specs.Lines.{lines_of, line_at, line_of}
 use Rattle.troop_doc.specs.Blocks.{is_blank, lines_round, block_round, IsBlockRound}
 use Rattle.troop_doc.proofs.BlockSteps.{block_in}
 use Rattle.troop_doc.proofs.LargestRun.{lines_round-block}
@@ -109,14 +109,14 @@ some-is_block text block place h =
     elim (cases_Bool (nat_lt (length text) place)) [
       | inl past ↦ let none : None ≡ Some block = sym (ap (λ is. block_in is n lines) past) ∙ h in absurd cc
       | inr in_text ↦ elim (cases_Bool (is_blank (line_of lines n))) [
-          | inl blank ↦
-              let none : None ≡ Some block = sym (ap (λ is. block_in is n lines) in_text ∙ rw blank refl) ∙ h in absurd cc
-          | inr some ↦
-              let within : place ≤ length text = ltb-false (length text) place in_text in
-              let are : Some (join_with_byte LINE_FEED (lines_round n lines)) ≡ Some block = sym (block_round-some text place within some) ∙ h in
-              let is : join_with_byte LINE_FEED (lines_round n lines) ≡ block = cc in
-              rw (← is) (lines_round-block text place (lies_on_line text place within) some)
-        ]
+        | inl blank ↦
+            let none : None ≡ Some block = sym (ap (λ is. block_in is n lines) in_text ∙ rw blank refl) ∙ h in absurd cc
+        | inr some ↦
+            let within : place ≤ length text = ltb-false (length text) place in_text in
+            let are : Some (join_with_byte LINE_FEED (lines_round n lines)) ≡ Some block = sym (block_round-some text place within some) ∙ h in
+            let is : join_with_byte LINE_FEED (lines_round n lines) ≡ block = cc in
+            rw (← is) (lines_round-block text place (lies_on_line text place within) some)
+      ]
     ]
 
 -- the text of the largest run of lines round a place is the block round it
