@@ -1,6 +1,6 @@
 -- The first line that isn't built.
-use Rattle.std.proofs.Common.{◌≡◌, ℕ, ◌+◌, List, [], ◌∷◌, ◌++◌, length, Bool, true, false, refl, sym, ◌∙◌, ap, arith}
-use Rattle.std.specs.Prelude.{Option, Some, None, All, if◌then◌else◌}
+use Rattle.std.proofs.Common.{◌≡◌, ℕ, ◌+◌, List, [], ◌∷◌, ◌++◌, length, Bool, true, false, refl, ap, arith}
+use Rattle.std.specs.Prelude.{Some, None, All, if◌then◌else◌}
 use Rattle.std.proofs.lemmas.List.Elements.{All-cons, All-nil}
 use Rattle.troop_main.specs.Grammar.{meaning_of}
 use Rattle.troop_main.specs.Play.{is_unbuilt, first_unbuilt, IsBuiltLine, IsUnbuiltLine}
