@@ -92,6 +92,8 @@ def rename_definition(folder, crate, module, old, new):
         if whole:
             text = re.sub(r"(?<![\w.])" + whole + r"\." + old + r"(?![\w'-])", f"{whole}.{new}", text)
         if own or path == home or edits_home:
+            if word(new).search(text):
+                print(f"{path}: {new} stands there already")
             for start, end in reversed(spans(text, path)):
                 text = text[:start] + renamed(text[start:end], old, new) + text[end:]
         if text != was:
@@ -115,7 +117,7 @@ def rename_lemmas(folder, table):
     """Lemmas are named by the words that they speak of, between dashes."""
     names, by_part = set(), {old: new for _, _, old, new in table if old != "-"}
     for path in files(folder):
-        if "/proofs/" in path:
+        if "/proofs/" in path and os.path.basename(path) not in ("Answers.antt", "Invariants.antt", "Proof.antt"):
             names |= set(re.findall(r"(?m)^(?:pub )?([a-z][\w']*(?:-[\w']+)+) :", read(path)))
     changes = {}
     for name in names:
