@@ -6,7 +6,7 @@ use Rattle.std.proofs.lemmas.List.{length-map, length-replicate, get_or-map, tak
 use Rattle.std.specs.Prelude.{All, ◌==◌, if◌then◌else◌, IsSomeAnd, slice_get, slice_set}
 use Rattle.ot_text.specs.Marked.{with_first, runs_of}
 use Rattle.author_marks.specs.declared.run.Run.{Run}
-use Rattle.author_marks.specs.Runs.{run_of, written_out}
+use Rattle.author_marks.specs.Runs.{run_of, marks_of_runs}
 use Rattle.author_marks.specs.RunEnds.{with_last}
 use Rattle.author_marks.proofs.RunsOf.{runs_of-are}
 
@@ -64,10 +64,10 @@ pub push_last : (runs : List Run) (who : ℕ) → ¬ IsSomeAnd (slice_get runs (
 push_last [] who h = refl
 push_last (first ∷ runs) who h = push_behind (first ∷ runs) (length (first ∷ runs) - 1) who (omega arith) h
 
-count-le : (runs : List (ℕ × ℕ)) (k : ℕ) (d : ℕ × ℕ) → k < length runs → (get_or runs k d).1 ≤ length (written_out runs)
+count-le : (runs : List (ℕ × ℕ)) (k : ℕ) (d : ℕ × ℕ) → k < length runs → (get_or runs k d).1 ≤ length (marks_of_runs runs)
 count-le [] k d h = absurd (omega arith)
-count-le (run ∷ runs) zero d h = omega (arith, length-append (replicate run.1 run.0) (written_out runs), length-replicate run.1 run.0)
-count-le (run ∷ runs) (suc k) d h = omega (arith, length-append (replicate run.1 run.0) (written_out runs), count-le runs k d (omega arith))
+count-le (run ∷ runs) zero d h = omega (arith, length-append (replicate run.1 run.0) (marks_of_runs runs), length-replicate run.1 run.0)
+count-le (run ∷ runs) (suc k) d h = omega (arith, length-append (replicate run.1 run.0) (marks_of_runs runs), count-le runs k d (omega arith))
 
 -- no run has more marks than there are
 pub counts_below : (marks : List ℕ) (most : ℕ) → length marks < most

@@ -3,7 +3,7 @@ use Rattle.std.proofs.Common.{◌≡◌, ℕ, zero, suc, ◌+◌, ◌≤◌, Lis
 use Rattle.std.proofs.lemmas.Bool.{eqb-true, eqb-false, eq-eqb, ne_eqb, cond_both}
 use Rattle.std.specs.Prelude.{All, ◌==◌}
 use Rattle.ot_text.specs.Marked.{with_first, runs_of}
-use Rattle.author_marks.specs.Runs.{written_out, NeighboursDiffer, AreRunsOf}
+use Rattle.author_marks.specs.Runs.{marks_of_runs, NeighboursDiffer, AreRunsOf}
 
 abbrev Runs : Type 0
 Runs = List (ℕ × ℕ)
@@ -37,10 +37,10 @@ neighbours-with_first who ((other, count) ∷ runs) h =
     cond_both (who == other) ((other, count + 1) ∷ runs) ((who, 1) ∷ (other, count) ∷ runs) NeighboursDiffer
     (λ e. neighbours-count other count (count + 1) runs h) (λ e. (eqb-false who other e, h))
 
-written_out-with_first : (who : ℕ) (runs : Runs) → written_out (with_first who runs) ≡ who ∷ written_out runs
-written_out-with_first who [] = refl
-written_out-with_first who ((other, count) ∷ runs) =
-    cond_both (who == other) ((other, count + 1) ∷ runs) ((who, 1) ∷ (other, count) ∷ runs) (λ made. written_out made ≡ who ∷ written_out ((other, count) ∷ runs))
+marks_of_runs-with_first : (who : ℕ) (runs : Runs) → marks_of_runs (with_first who runs) ≡ who ∷ marks_of_runs runs
+marks_of_runs-with_first who [] = refl
+marks_of_runs-with_first who ((other, count) ∷ runs) =
+    cond_both (who == other) ((other, count + 1) ∷ runs) ((who, 1) ∷ (other, count) ∷ runs) (λ made. marks_of_runs made ≡ who ∷ marks_of_runs ((other, count) ∷ runs))
     (λ e. let more : count + 1 ≡ suc count = omega arith in rw (more, eqb-true who other e) refl) (λ e. refl)
 
 -- the runs of marks are runs of them
@@ -51,12 +51,12 @@ runs_of-are (who ∷ marks) =
     record {
       counts = counts-with_first who (runs_of marks) h.counts;
       neighbours = neighbours-with_first who (runs_of marks) h.neighbours;
-      whole = written_out-with_first who (runs_of marks) ∙ ap (λ rest. who ∷ rest) h.whole;
+      whole = marks_of_runs-with_first who (runs_of marks) ∙ ap (λ rest. who ∷ rest) h.whole;
     }
 
 -- one more mark in front of a run of its number, and in front of runs that begin with another number
-with_first-same : (who count : ℕ) (runs : Runs) → with_first who ((who, count) ∷ runs) ≡ (who, suc count) ∷ runs
-with_first-same who count runs = let more : count + 1 ≡ suc count = omega arith in rw (eq-eqb who who refl, more) refl
+with_first-unchanged : (who count : ℕ) (runs : Runs) → with_first who ((who, count) ∷ runs) ≡ (who, suc count) ∷ runs
+with_first-unchanged who count runs = let more : count + 1 ≡ suc count = omega arith in rw (eq-eqb who who refl, more) refl
 
 with_first-other : (who : ℕ) (runs : Runs) → NeighboursDiffer ((who, 1) ∷ runs) → with_first who runs ≡ (who, 1) ∷ runs
 with_first-other who [] h = refl
@@ -65,20 +65,20 @@ with_first-other who ((other, count) ∷ runs) h = rw (ne_eqb who other h.0) ref
 runs_of-replicate : (who k : ℕ) (marks : List ℕ) (runs : Runs) → runs_of marks ≡ runs → NeighboursDiffer ((who, 1) ∷ runs)
     → runs_of (replicate (suc k) who ++ marks) ≡ (who, suc k) ∷ runs
 runs_of-replicate who zero marks runs e h = rw e (with_first-other who runs h)
-runs_of-replicate who (suc k) marks runs e h = rw (runs_of-replicate who k marks runs e h) (with_first-same who (suc k) runs)
+runs_of-replicate who (suc k) marks runs e h = rw (runs_of-replicate who k marks runs e h) (with_first-unchanged who (suc k) runs)
 
 neighbours-tail : (run : ℕ × ℕ) (runs : Runs) → NeighboursDiffer (run ∷ runs) → NeighboursDiffer runs
 neighbours-tail run [] h = tt
 neighbours-tail run (next ∷ runs) h = h.1
 
-runs_of-written_out : (runs : Runs) → HaveCounts runs → NeighboursDiffer runs → runs_of (written_out runs) ≡ runs
-runs_of-written_out [] some h = refl
-runs_of-written_out ((who, zero) ∷ runs) some h = let one : 1 ≤ 0 = some 0 (who, zero) (omega arith) in absurd (omega arith)
-runs_of-written_out ((who, suc k) ∷ runs) some h =
-    runs_of-replicate who k (written_out runs) runs
-    (runs_of-written_out runs (counts-tail (who, suc k) runs some) (neighbours-tail (who, suc k) runs h))
+runs_of-marks_of_runs : (runs : Runs) → HaveCounts runs → NeighboursDiffer runs → runs_of (marks_of_runs runs) ≡ runs
+runs_of-marks_of_runs [] some h = refl
+runs_of-marks_of_runs ((who, zero) ∷ runs) some h = let one : 1 ≤ 0 = some 0 (who, zero) (omega arith) in absurd (omega arith)
+runs_of-marks_of_runs ((who, suc k) ∷ runs) some h =
+    runs_of-replicate who k (marks_of_runs runs) runs
+    (runs_of-marks_of_runs runs (counts-tail (who, suc k) runs some) (neighbours-tail (who, suc k) runs h))
     (neighbours-count who (suc k) 1 runs h)
 
 -- no other runs are runs of these marks
 pub runs_of-only : (runs : Runs) (marks : List ℕ) → AreRunsOf runs marks → runs ≡ runs_of marks
-runs_of-only runs marks h = sym (runs_of-written_out runs h.counts h.neighbours) ∙ ap runs_of h.whole
+runs_of-only runs marks h = sym (runs_of-marks_of_runs runs h.counts h.neighbours) ∙ ap runs_of h.whole

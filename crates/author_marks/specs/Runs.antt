@@ -7,8 +7,8 @@ abbrev pub run_of : ℕ × ℕ → Run
 run_of pair = record { who = pair.0; count = pair.1 }
 
 -- the marks that the runs stand for, one after the other
-abbrev pub written_out : List (ℕ × ℕ) → List ℕ
-written_out runs = flat_map (λ run. replicate run.1 run.0) runs
+abbrev pub marks_of_runs : List (ℕ × ℕ) → List ℕ
+marks_of_runs runs = flat_map (λ run. replicate run.1 run.0) runs
 
 -- no run has the number of the one before it
 abbrev pub NeighboursDiffer : List (ℕ × ℕ) → Type 0
@@ -20,4 +20,4 @@ NeighboursDiffer (run ∷ next ∷ runs) = (run.0 ≢ next.0) × NeighboursDiffe
 pub record AreRunsOf (runs : List (ℕ × ℕ)) (marks : List ℕ) : Type 0 where
   pub counts : All (λ run. 1 ≤ run.1) runs
   pub neighbours : NeighboursDiffer runs
-  pub whole : written_out runs ≡ marks
+  pub whole : marks_of_runs runs ≡ marks

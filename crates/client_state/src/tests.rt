@@ -23,7 +23,7 @@ fn op(alloc: Global, front: u16, string: &str, behind: u16) -> Result<Op, AllocE
     Ok(builder.finish())
 }
 
-// The entry at this place by this performer.
+// The entry at this position by this performer.
 fn entry(at: u64, who: u32, seen: u64, deed: Deed) -> Entry {
     Entry {
         at,

@@ -6,7 +6,7 @@ use Rattle.ot_text.specs.declared.part.Part.{Part}
 use Rattle.ot_text.specs.declared.part.Part.TheVariants.{Retain, Insert, Delete}
 use Rattle.ot_text.specs.Change.{Change, inserted}
 use Rattle.ot_text.specs.Ends.{is_insert}
-use Rattle.ot_text.specs.Parts.{parts_of, IsProper, IsNormal, inserted_by, inserted_of}
+use Rattle.ot_text.specs.Parts.{parts_of, IsProper, IsNormal, part_inserted, inserted_of}
 use Rattle.ot_text.specs.Ready.{insert_count}
 use Rattle.ot_text.proofs.Canonical.{normal-parts_of, norm-parts_of}
 use Rattle.ot_text.proofs.Sums.{inserted-norm}
@@ -15,7 +15,7 @@ some : (t : List ℕ) → t ≢ [] → 1 ≤ length t
 some [] h = absurd (h refl)
 some (c ∷ t) h = omega arith
 
-one_text : (part : Part) → IsProper part → (if is_insert part then 1 else 0) ≤ inserted_by part
+one_text : (part : Part) → IsProper part → (if is_insert part then 1 else 0) ≤ part_inserted part
 one_text (Retain k) h = omega arith
 one_text (Insert t) h = some t h
 one_text (Delete k) h = omega arith
@@ -26,7 +26,7 @@ texts_le (part ∷ parts) h =
     omega (
       arith,
       sum_by-cons (λ (p : Part). if is_insert p then 1 else 0) part parts,
-      sum_by-cons inserted_by part parts,
+      sum_by-cons part_inserted part parts,
       one_text part h.0,
       texts_le parts h.2,
     )

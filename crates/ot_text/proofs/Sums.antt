@@ -4,17 +4,17 @@ use Rattle.std.proofs.lemmas.List.Sums.{sum_by-cons}
 use Rattle.ot_text.specs.declared.part.Part.{Part}
 use Rattle.ot_text.specs.declared.part.Part.TheVariants.{Retain, Insert, Delete}
 use Rattle.ot_text.specs.Change.{Change, base, target, inserted, effect_on, Old, New, Item, places_from, image, retain_then, delete_then}
-use Rattle.ot_text.specs.Parts.{passed_by, left_by_part, inserted_by, base_of, target_of, inserted_of, image_from, part_then, norm}
+use Rattle.ot_text.specs.Parts.{part_base, part_target, part_inserted, base_of, target_of, inserted_of, image_from, part_then, norm}
 use Rattle.ot_text.proofs.Applied.{base-part_then}
 use Rattle.ot_text.proofs.Effects.{effect-insert_then}
 use Rattle.ot_text.proofs.Then.{target-insert_then, target-retain_then, target-delete_then, inserted-insert_then, inserted-retain_then, inserted-delete_then}
 
-target-part_then : (part : Part) (c : Change) → target (part_then part c) ≡ left_by_part part + target c
+target-part_then : (part : Part) (c : Change) → target (part_then part c) ≡ part_target part + target c
 target-part_then (Retain k) c = target-retain_then k c
 target-part_then (Insert t) c = target-insert_then t c
 target-part_then (Delete k) c = omega (arith, target-delete_then k c)
 
-inserted-part_then : (part : Part) (c : Change) → inserted (part_then part c) ≡ inserted_by part + inserted c
+inserted-part_then : (part : Part) (c : Change) → inserted (part_then part c) ≡ part_inserted part + inserted c
 inserted-part_then (Retain k) c = omega (arith, inserted-retain_then k c)
 inserted-part_then (Insert t) c = inserted-insert_then t c
 inserted-part_then (Delete k) c = omega (arith, inserted-delete_then k c)
@@ -22,17 +22,17 @@ inserted-part_then (Delete k) c = omega (arith, inserted-delete_then k c)
 -- the base of a list of parts is the sum of what they go over
 pub base-norm : (parts : List Part) → base (norm parts) ≡ base_of parts
 base-norm [] = refl
-base-norm (part ∷ parts) = omega (arith, base-part_then part (norm parts), base-norm parts, sum_by-cons passed_by part parts)
+base-norm (part ∷ parts) = omega (arith, base-part_then part (norm parts), base-norm parts, sum_by-cons part_base part parts)
 
 -- the target of a list of parts is the sum of what they put there
 pub target-norm : (parts : List Part) → target (norm parts) ≡ target_of parts
 target-norm [] = refl
-target-norm (part ∷ parts) = omega (arith, target-part_then part (norm parts), target-norm parts, sum_by-cons left_by_part part parts)
+target-norm (part ∷ parts) = omega (arith, target-part_then part (norm parts), target-norm parts, sum_by-cons part_target part parts)
 
 -- the number of inserted characters of a list of parts
 pub inserted-norm : (parts : List Part) → inserted (norm parts) ≡ inserted_of parts
 inserted-norm [] = refl
-inserted-norm (part ∷ parts) = omega (arith, inserted-part_then part (norm parts), inserted-norm parts, sum_by-cons inserted_by part parts)
+inserted-norm (part ∷ parts) = omega (arith, inserted-part_then part (norm parts), inserted-norm parts, sum_by-cons part_inserted part parts)
 
 -- the image of an operation whose places are numbered from i on
 abbrev image_at : ℕ → Change → List Item

@@ -1,7 +1,7 @@
 //! The walk along an operation's parts, over a list of any elements.
 ghost use Rattle.std.specs.Prelude.{◌≡◌, ◌+◌, ◌≤◌, ◌∷◌, [], ◌++◌, ℕ, length, drop, map, vec_len, vec_capacity};
 ghost use Rattle.ot_text.specs.Change.{base, target, effect};
-ghost use Rattle.ot_text.specs.Parts.{passed_by, left_by_part};
+ghost use Rattle.ot_text.specs.Parts.{part_base, part_target};
 ghost use Rattle.ot_text.specs.Pieces.{piece_of};
 
 use crate::{Op, Part};
@@ -38,9 +38,9 @@ fn put_part<T: Copy, N: NewElement<T>>(
     at: usize,
     new: &N,
 ) -> usize
-    requires within { at + passed_by part.now ≤ length items.now }
-    requires room { vec_len made.old + left_by_part part.now ≤ vec_capacity made.old }
-    ensures place { result ≡ at + passed_by part.now }
+    requires within { at + part_base part.now ≤ length items.now }
+    requires room { vec_len made.old + part_target part.now ≤ vec_capacity made.old }
+    ensures place { result ≡ at + part_base part.now }
     ensures made { made.new.items ≡ made.old.items ++ piece_of (N.element_of new.now) part.now (drop at items.now) }
     ensures capacity { vec_capacity made.old ≤ vec_capacity made.new }
 {

@@ -1,7 +1,7 @@
 //! The worked examples.
 use crate::{
-    ApplyError, NewElement, Op, OpBuilder, Part, Text, apply, effect_law, equal_images_law, gaps_law,
-    norm_append_law, norm_law, normal_form_law, rewrite, room_law, same_op_law,
+    ApplyError, NewElement, Op, OpBuilder, Part, Text, apply, effect_law, equal_images_law,
+    gaps_law, norm_append_law, norm_law, normal_form_law, rewrite, room_law, same_op_law,
 };
 use std::alloc::{AllocError, Global};
 use std::process::Abort;

@@ -27,9 +27,9 @@ comp-text_gone : (s t : List ℕ) (a b : Change)
 comp-text_gone [] t a b = refl
 comp-text_gone (c ∷ s) t a b = comp-text_gone s t a b
 
-comp-kept : (n : ℕ) (a b : Change) → comp (retain_then n a) (retain_then n b) ≡ retain_then n (comp a b)
-comp-kept zero a b = refl
-comp-kept (suc n) a b = ap (retain_then 1) (comp-kept n a b)
+comp-keeps_place : (n : ℕ) (a b : Change) → comp (retain_then n a) (retain_then n b) ≡ retain_then n (comp a b)
+comp-keeps_place zero a b = refl
+comp-keeps_place (suc n) a b = ap (retain_then 1) (comp-keeps_place n a b)
 
 comp-gone : (n : ℕ) (a b : Change) → comp (retain_then n a) (delete_then n b) ≡ delete_then n (comp a b)
 comp-gone zero a b = refl
@@ -65,7 +65,7 @@ comp-characters_gone n t a b within =
 pub comp-places_kept : (n k : ℕ) (a b : Change) → n ≤ k
     → comp (retain_then k a) (retain_then n b) ≡ retain_then n (comp (retain_then (k - n) a) b)
 comp-places_kept n k a b within =
-    ap (λ x. comp x (retain_then n b)) (split_places n k a within) ∙ comp-kept n (retain_then (k - n) a) b
+    ap (λ x. comp x (retain_then n b)) (split_places n k a within) ∙ comp-keeps_place n (retain_then (k - n) a) b
 
 -- the first n of k places that the first operation keeps, which the second removes
 pub comp-places_gone : (n k : ℕ) (a b : Change) → n ≤ k

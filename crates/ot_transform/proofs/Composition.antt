@@ -1,7 +1,7 @@
 -- The composition has the effect of the two operations in a row, and both ways round are one operation.
 use Rattle.std.proofs.Common.{◌≡◌, ℕ, suc, Some, List, [], ◌∷◌, ◌++◌, length, drop, map, refl, sym, ap, ◌∙◌, append_assoc, map-id, length-drop, arith}
 use Rattle.std.proofs.lemmas.List.{map-append}
-use Rattle.ot_text.specs.Change.{Fate, Gone, Kept, Change, base, target, left_by, plain, effect_on, effect, New, places_from, image, filled, insert_then}
+use Rattle.ot_text.specs.Change.{Fate, Gone, Kept, Change, base, target, fates_target, plain, effect_on, effect, New, places_from, image, item_element, insert_then}
 use Rattle.ot_text.proofs.Effects.{effect-insert_then, length-effect}
 use Rattle.ot_text.proofs.Filled.{effect_by_image}
 use Rattle.ot_text.proofs.Images.{change_from_image}
@@ -63,7 +63,7 @@ effect-comp new a b m p =
     ∙ ap (λ rest. map new b.start ++ rest)
     (text_then new b.places a.start c m (effect_on new a.places m) (effect-comp_on new a.places gs m p))
 
-base-comp_on : (fs gs : List Fate) → left_by fs ≡ length gs → base (comp_on fs gs) ≡ length fs
+base-comp_on : (fs gs : List Fate) → fates_target fs ≡ length gs → base (comp_on fs gs) ≡ length fs
 base-comp_on [] gs p = refl
 base-comp_on (Gone ∷ fs) gs p = ap suc (base-comp_on fs gs p)
 base-comp_on (Kept t ∷ fs) [] p = absurd (omega arith)
@@ -84,9 +84,9 @@ image-comp a b p =
     ∙ effect-comp New a b (places_from 0 (base a)) (sym (length-places_from 0 (base a)))
 
 -- the image of a composition is the second one's, filled from the first one's
-pub image-comp-filled : (a b : Change) → target a ≡ base b
-    → map Some (image (comp a b)) ≡ map (filled New (image a)) (image b)
-image-comp-filled a b p =
+pub image-comp-item_element : (a b : Change) → target a ≡ base b
+    → map Some (image (comp a b)) ≡ map (item_element New (image a)) (image b)
+image-comp-item_element a b p =
     let long : length (image a) ≡ target a = length-effect New a (places_from 0 (base a)) (length-places_from 0 (base a)) in
     ap (map Some) (image-comp a b p) ∙ sym (effect_by_image New b (image a) (sym p ∙ sym long))
 

@@ -1,10 +1,10 @@
 -- The images of two transformed operations, gap by gap.
 use Rattle.std.proofs.Common.{◌≡◌, ℕ, suc, ◌+◌, ◌&&◌, if◌then◌else◌, List, [], ◌∷◌, ◌++◌, length, map, refl, sym, ap, ◌∙◌, append-nil, arith}
-use Rattle.ot_text.specs.Change.{Fate, Gone, Kept, Change, base, target, left_by, stays, text_behind, ins, kept, effect, Item, Old, New, places_from, image, nothing, insert_then, retain_then}
+use Rattle.ot_text.specs.Change.{Fate, Gone, Kept, Change, base, target, fates_target, stays, text_behind, ins, keeps_place, effect, Item, Old, New, places_from, image, nothing, insert_then, retain_then}
 use Rattle.ot_text.proofs.Effects.{effect-insert_then, effect-retain_all}
 use Rattle.ot_transform.specs.Merge.{each_from}
 use Rattle.ot_transform.specs.Transform.{place_then, left_on, left, right_on, right, gap_place, left_image, right_image}
-use Rattle.ot_transform.proofs.Gaps.{change, one_if_stays, each_from-suc, each_from-same, append_of_three, gap_place-cons, length-places_from, places_from-add}
+use Rattle.ot_transform.proofs.Gaps.{change, one_if_stays, each_from-suc, each_from-unchanged, append_of_three, gap_place-cons, length-places_from, places_from-add}
 use Rattle.ot_transform.proofs.Merge.{base-left, base-right}
 
 same_places : (i j n k : ℕ) → i ≡ j → n ≡ k → places_from i n ≡ places_from j k
@@ -23,7 +23,7 @@ abbrev if_both : Fate → Fate → ℕ → List Item
 if_both f g i = if stays f && stays g then Old i ∷ [] else []
 
 effect-place : (f g : Fate) (gs : List Fate) (c : Change) (i : ℕ)
-    → effect New (place_then f g c) (places_from i (left_by (g ∷ gs)))
+    → effect New (place_then f g c) (places_from i (fates_target (g ∷ gs)))
     ≡ if_both f g i ++ effect New c (places_from (i + one_if_stays g) (target (change (text_behind g) gs)))
 effect-place Gone Gone gs c i = ap (effect New c) (same_places _ _ _ _ (omega arith) (omega arith))
 effect-place (Kept s) Gone gs c i = ap (effect New c) (same_places _ _ _ _ (omega arith) (omega arith))
@@ -45,7 +45,7 @@ gap_places-cons gap t g gs j n =
     ap (λ i. gap 0 i ++ each_from (at_gap_places gap b j) 1 n) e
     ∙ ap (λ rest. gap 0 j ++ rest)
     (each_from-suc (at_gap_places gap b j) 0 n
-    ∙ each_from-same (λ i. at_gap_places gap b j (suc i)) (at_gap_places (λ i. gap (suc i)) b' j')
+    ∙ each_from-unchanged (λ i. at_gap_places gap b j (suc i)) (at_gap_places (λ i. gap (suc i)) b' j')
     (λ i. let d : j + gap_place b (suc i) ≡ j' + gap_place b' i = omega (arith, gap_place-cons t g gs i) in
     ap (gap (suc i)) d)
     0 n)
@@ -53,7 +53,7 @@ gap_places-cons gap t g gs j n =
 gap_places-first : (gap : ℕ → ℕ → List Item) (c : Change) (n : ℕ)
     → each_from (at_gap_places gap c 0) 0 n ≡ each_from (λ i. gap i (gap_place c i)) 0 n
 gap_places-first gap c n =
-    each_from-same (at_gap_places gap c 0) (λ i. gap i (gap_place c i))
+    each_from-unchanged (at_gap_places gap c 0) (λ i. gap i (gap_place c i))
     (λ i. let e : 0 + gap_place c i ≡ gap_place c i = omega arith in ap (gap i) e)
     0 n
 
@@ -61,7 +61,7 @@ gap_places-first gap c n =
 abbrev left_gap : Change → Change → ℕ → ℕ → List Item
 left_gap a b i j =
     map New (ins a i)
-    ++ (places_from j (length (ins b i)) ++ (if kept a i && kept b i then Old (j + length (ins b i)) ∷ [] else []))
+    ++ (places_from j (length (ins b i)) ++ (if keeps_place a i && keeps_place b i then Old (j + length (ins b i)) ∷ [] else []))
 
 left_images : (s t : List ℕ) (fs gs : List Fate) (j : ℕ) → length fs ≡ length gs
     → effect New (left (change s fs) (change t gs)) (places_from j (target (change t gs)))
@@ -75,10 +75,10 @@ left_images s t [] (g ∷ gs) j p = absurd (omega arith)
 left_images s t (f ∷ fs) [] j p = absurd (omega arith)
 left_images s t (f ∷ fs) (g ∷ gs) j p =
     let c : Change = left (change (text_behind f) fs) (change (text_behind g) gs) in
-    let places : List Item = places_from j (length t + left_by (g ∷ gs)) in
+    let places : List Item = places_from j (length t + fates_target (g ∷ gs)) in
     effect-insert_then New s (retain_then (length t) (left_on (f ∷ fs) (g ∷ gs))) places
     ∙ ap (λ rest. map New s ++ rest)
-    (effect-retain_places j (length t) (left_by (g ∷ gs)) (left_on (f ∷ fs) (g ∷ gs))
+    (effect-retain_places j (length t) (fates_target (g ∷ gs)) (left_on (f ∷ fs) (g ∷ gs))
     ∙ ap (λ rest. places_from j (length t) ++ rest)
     (effect-place f g gs c (j + length t)
     ∙ ap (λ rest. if_both f g (j + length t) ++ rest)
@@ -97,7 +97,7 @@ image-left a b p =
 abbrev right_gap : Change → Change → ℕ → ℕ → List Item
 right_gap b a i j =
     places_from j (length (ins a i))
-    ++ (map New (ins b i) ++ (if kept b i && kept a i then Old (j + length (ins a i)) ∷ [] else []))
+    ++ (map New (ins b i) ++ (if keeps_place b i && keeps_place a i then Old (j + length (ins a i)) ∷ [] else []))
 
 right_images : (s t : List ℕ) (fs gs : List Fate) (j : ℕ) → length fs ≡ length gs
     → effect New (right (change t gs) (change s fs)) (places_from j (target (change s fs)))
@@ -111,9 +111,9 @@ right_images s t [] (g ∷ gs) j p = absurd (omega arith)
 right_images s t (f ∷ fs) [] j p = absurd (omega arith)
 right_images s t (f ∷ fs) (g ∷ gs) j p =
     let c : Change = right (change (text_behind g) gs) (change (text_behind f) fs) in
-    effect-retain_places j (length s) (left_by (f ∷ fs)) (insert_then t (right_on (g ∷ gs) (f ∷ fs)))
+    effect-retain_places j (length s) (fates_target (f ∷ fs)) (insert_then t (right_on (g ∷ gs) (f ∷ fs)))
     ∙ ap (λ rest. places_from j (length s) ++ rest)
-    (effect-insert_then New t (right_on (g ∷ gs) (f ∷ fs)) (places_from (j + length s) (left_by (f ∷ fs)))
+    (effect-insert_then New t (right_on (g ∷ gs) (f ∷ fs)) (places_from (j + length s) (fates_target (f ∷ fs)))
     ∙ ap (λ rest. map New t ++ rest)
     (effect-place g f fs c (j + length s)
     ∙ ap (λ rest. if_both g f (j + length s) ++ rest)

@@ -18,11 +18,11 @@ each_from-suc f i zero = refl
 each_from-suc f i (suc n) = ap (λ rest. f (suc i) ++ rest) (each_from-suc f (suc i) n)
 
 -- gaps at which two functions agree
-pub each_from-same : {X : Type 0} (f g : ℕ → List X) → ((k : ℕ) → f k ≡ g k) → (i n : ℕ)
+pub each_from-unchanged : {X : Type 0} (f g : ℕ → List X) → ((k : ℕ) → f k ≡ g k) → (i n : ℕ)
     → each_from f i n ≡ each_from g i n
-each_from-same f g same i zero = refl
-each_from-same f g same i (suc n) =
-    ap (λ here. here ++ each_from f (suc i) n) (same i) ∙ ap (λ rest. g i ++ rest) (each_from-same f g same (suc i) n)
+each_from-unchanged f g same i zero = refl
+each_from-unchanged f g same i (suc n) =
+    ap (λ here. here ++ each_from f (suc i) n) (same i) ∙ ap (λ rest. g i ++ rest) (each_from-unchanged f g same (suc i) n)
 
 -- three lists in front of a fourth
 pub append_of_three : {X : Type 0} (xs ys zs rest : List X) → (xs ++ (ys ++ zs)) ++ rest ≡ xs ++ (ys ++ (zs ++ rest))

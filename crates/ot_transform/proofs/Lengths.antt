@@ -1,6 +1,6 @@
 -- How much two transformed operations put in, and how long transformed and composed operations make a text.
 use Rattle.std.proofs.Common.{◌≡◌, ℕ, ◌+◌, ◌≤◌, List, [], ◌∷◌, length, refl, sym, ap, ◌∙◌, arith}
-use Rattle.ot_text.specs.Change.{Fate, Gone, Kept, Change, base, target, inserted, inserted_behind, text_behind, effect, Item, New, places_from, insert_then, retain_then}
+use Rattle.ot_text.specs.Change.{Fate, Gone, Kept, Change, base, target, inserted, fates_inserted, text_behind, effect, Item, New, places_from, insert_then, retain_then}
 use Rattle.ot_text.proofs.Effects.{length-effect}
 use Rattle.ot_text.proofs.Then.{inserted-insert_then, inserted-retain_then, target-le}
 use Rattle.ot_transform.specs.Composition.{comp}
@@ -14,10 +14,10 @@ inserted-place_then f Gone c = refl
 inserted-place_then Gone (Kept t) c = refl
 inserted-place_then (Kept s) (Kept t) c = omega arith
 
-inserted_behind-cons : (f : Fate) (fs : List Fate)
-    → inserted_behind (f ∷ fs) ≡ length (text_behind f) + inserted_behind fs
-inserted_behind-cons Gone fs = omega arith
-inserted_behind-cons (Kept s) fs = refl
+fates_inserted-cons : (f : Fate) (fs : List Fate)
+    → fates_inserted (f ∷ fs) ≡ length (text_behind f) + fates_inserted fs
+fates_inserted-cons Gone fs = omega arith
+fates_inserted-cons (Kept s) fs = refl
 
 -- of the two texts at a gap one is put in
 inserted-left_gap_then : (s t : List ℕ) (c : Change)
@@ -28,7 +28,7 @@ inserted-right_gap_then : (s t : List ℕ) (c : Change)
     → inserted (retain_then (length s) (insert_then t c)) ≡ length t + inserted c
 inserted-right_gap_then s t c = omega (arith, inserted-insert_then t c, inserted-retain_then (length s) (insert_then t c))
 
-inserted-left_on : (fs gs : List Fate) → length fs ≡ length gs → inserted (left_on fs gs) ≡ inserted_behind fs
+inserted-left_on : (fs gs : List Fate) → length fs ≡ length gs → inserted (left_on fs gs) ≡ fates_inserted fs
 inserted-left_on [] gs p = refl
 inserted-left_on (f ∷ fs) [] p = absurd (omega arith)
 inserted-left_on (f ∷ fs) (g ∷ gs) p =
@@ -37,7 +37,7 @@ inserted-left_on (f ∷ fs) (g ∷ gs) p =
       inserted-place_then f g (left_gap_then (text_behind f) (text_behind g) (left_on fs gs)),
       inserted-left_gap_then (text_behind f) (text_behind g) (left_on fs gs),
       inserted-left_on fs gs (omega arith),
-      inserted_behind-cons f fs,
+      fates_inserted-cons f fs,
     )
 
 -- an operation moved as the first puts in as much as before
@@ -49,7 +49,7 @@ inserted-left a b p =
 pub target-left-le : (a b : Change) → base a ≡ base b → target (left a b) ≤ target b + inserted a
 target-left-le a b p = omega (arith, target-le (left a b), base-left a b p, inserted-left a b p)
 
-inserted-right_on : (gs fs : List Fate) → length gs ≡ length fs → inserted (right_on gs fs) ≡ inserted_behind gs
+inserted-right_on : (gs fs : List Fate) → length gs ≡ length fs → inserted (right_on gs fs) ≡ fates_inserted gs
 inserted-right_on [] fs p = refl
 inserted-right_on (g ∷ gs) [] p = absurd (omega arith)
 inserted-right_on (g ∷ gs) (f ∷ fs) p =
@@ -58,7 +58,7 @@ inserted-right_on (g ∷ gs) (f ∷ fs) p =
       inserted-place_then g f (right_gap_then (text_behind f) (text_behind g) (right_on gs fs)),
       inserted-right_gap_then (text_behind f) (text_behind g) (right_on gs fs),
       inserted-right_on gs fs (omega arith),
-      inserted_behind-cons g gs,
+      fates_inserted-cons g gs,
     )
 
 -- an operation moved as the second puts in as much as before

@@ -1,6 +1,6 @@
 -- Each way round makes the merge of both.
 use Rattle.std.proofs.Common.{◌≡◌, ℕ, suc, ◌+◌, ◌&&◌, if◌then◌else◌, List, [], ◌∷◌, ◌++◌, length, map, refl, sym, ap, ◌∙◌, append-nil, arith}
-use Rattle.ot_text.specs.Change.{Fate, Gone, Kept, Change, base, target, left_by, stays, text_behind, effect_on, effect, insert_then, retain_then}
+use Rattle.ot_text.specs.Change.{Fate, Gone, Kept, Change, base, target, fates_target, stays, text_behind, effect_on, effect, insert_then, retain_then}
 use Rattle.ot_text.proofs.Effects.{effect-insert_then}
 use Rattle.ot_text.proofs.Then.{base-retain_then}
 use Rattle.ot_transform.specs.Merge.{merge_at, merge}
@@ -114,7 +114,7 @@ base-left_gap_then s t c = base-retain_then (length t) c
 base-right_gap_then : (s t : List ℕ) (c : Change) → base (right_gap_then s t c) ≡ length s + base c
 base-right_gap_then s t c = base-retain_then (length s) (insert_then t c)
 
-base-left_on : (fs gs : List Fate) → length fs ≡ length gs → base (left_on fs gs) ≡ left_by gs
+base-left_on : (fs gs : List Fate) → length fs ≡ length gs → base (left_on fs gs) ≡ fates_target gs
 base-left_on [] [] p = refl
 base-left_on [] (g ∷ gs) p = absurd (omega arith)
 base-left_on (f ∷ fs) [] p = absurd (omega arith)
@@ -130,7 +130,7 @@ pub base-left : (a b : Change) → base a ≡ base b → base (left a b) ≡ tar
 base-left a b p =
     omega (arith, base-left_gap_then a.start b.start (left_on a.places b.places), base-left_on a.places b.places p)
 
-base-right_on : (gs fs : List Fate) → length gs ≡ length fs → base (right_on gs fs) ≡ left_by fs
+base-right_on : (gs fs : List Fate) → length gs ≡ length fs → base (right_on gs fs) ≡ fates_target fs
 base-right_on [] [] p = refl
 base-right_on [] (f ∷ fs) p = absurd (omega arith)
 base-right_on (g ∷ gs) [] p = absurd (omega arith)

@@ -4,7 +4,7 @@ use Rattle.ot_text.specs.declared.op.TheConstants.{MAX_LEN}
 use Rattle.ot_text.specs.Change.{Change, base, target, inserted, then, nothing}
 use Rattle.ot_text.proofs.Then.{then_assoc, then-nothing, base-then, target-then}
 use Rattle.ot_transform.specs.declared.step.Step.{Step}
-use Rattle.ot_transform.specs.Step.{left_step, right_step, Fits}
+use Rattle.ot_transform.specs.Step.{left_step, right_step, StepFits}
 use Rattle.ot_transform.specs.Transform.{left, right}
 use Rattle.ot_transform.specs.Walk.{Leads, IsOver}
 use Rattle.ot_transform.proofs.Lengths.{target-left-le, target-right-le}
@@ -59,7 +59,7 @@ target-part-le made step rest whole e = omega (arith, ap target e, target-then (
 -- there is room for what a step does in `left`
 pub left_fits : (x y made : Change) (step : Step) (a b a' b' : Change) → base x ≡ base y
     → target y + inserted x ≤ MAX_LEN → Leads step a b a' b' → IsLeftSoFar (left x y) made a b
-    → Fits made (left_step step)
+    → StepFits made (left_step step)
 left_fits x y made step a b a' b' same room h e =
     let whole : IsLeftSoFar (left x y) (then made (left_step step)) a' b' =
     left_so_far (left x y) made step a b a' b' h e in
@@ -71,7 +71,7 @@ left_fits x y made step a b a' b' same room h e =
 -- there is room for what a step does in `right`
 pub right_fits : (x y made : Change) (step : Step) (a b a' b' : Change) → base x ≡ base y
     → target x + inserted y ≤ MAX_LEN → Leads step a b a' b' → IsRightSoFar (right y x) made a b
-    → Fits made (right_step step)
+    → StepFits made (right_step step)
 right_fits x y made step a b a' b' same room h e =
     let whole : IsRightSoFar (right y x) (then made (right_step step)) a' b' =
     right_so_far (right y x) made step a b a' b' h e in

@@ -5,12 +5,12 @@ use Rattle.ot_text.specs.declared.part.Part.{Part}
 use Rattle.ot_text.specs.declared.part.Part.TheVariants.{Retain, Insert, Delete}
 use Rattle.ot_text.specs.declared.op.TheConstants.{MAX_LEN}
 use Rattle.ot_text.specs.Change.{Change, base, target, nothing, insert_then, retain_then, then}
-use Rattle.ot_text.specs.Parts.{norm, part_then, passed_by, left_by_part, IsNormal}
+use Rattle.ot_text.specs.Parts.{norm, part_then, part_base, part_target, IsNormal}
 use Rattle.ot_text.proofs.Applied.{base-part_then}
 use Rattle.ot_text.proofs.Then.{then-nothing, target-insert_then, target-retain_then, target-delete_then}
 use Rattle.ot_transform.specs.declared.composite.Composer.{Composer}
 use Rattle.ot_transform.specs.Composition.{comp}
-use Rattle.ot_transform.specs.Progress.{same, GoesOn, HasRoomFor}
+use Rattle.ot_transform.specs.Progress.{unchanged, GoesOn, HasRoomFor}
 use Rattle.ot_transform.specs.Rest.{HasNoTextFirst}
 use Rattle.ot_transform.proofs.Rests.{end_of_untexted}
 
@@ -31,7 +31,7 @@ pub record IsComposedSoFar (parts : List Part) (i : ℕ) (a b : Change) (now : C
   pub over : base now.made + base (norm (drop i parts)) ≡ base a
   pub room : target now.made + target (norm now.rest) ≡ target b
 
-target-part_then : (part : Part) (c : Change) → target (part_then part c) ≡ left_by_part part + target c
+target-part_then : (part : Part) (c : Change) → target (part_then part c) ≡ part_target part + target c
 target-part_then (Retain k) c = target-retain_then k c
 target-part_then (Insert t) c = target-insert_then t c
 target-part_then (Delete k) c = target-delete_then k c ∙ omega arith
@@ -43,7 +43,7 @@ split parts i part within is = ap norm (drop_more parts i part within ∙ ap (λ
 -- there is room for what the composition does over one part
 pub part_room : (parts : List Part) (i : ℕ) (part : Part) (a b : Change) (now : Composer) → i < length parts
     → part ≡ get_or parts i part → base a ≤ MAX_LEN → target b ≤ MAX_LEN → IsComposedSoFar parts i a b now
-    → HasRoomFor (passed_by part) (left_by_part part) now
+    → HasRoomFor (part_base part) (part_target part) now
 part_room parts i part a b now within is short_a short_b s =
     let e : norm (drop i parts) ≡ part_then part (norm (drop (i + 1) parts)) = split parts i part within is in
     record {
@@ -55,7 +55,7 @@ part_room parts i part a b now within is short_a short_b s =
 -- one part further, what is made and what is to come are still the composition
 pub part_composed : (parts : List Part) (i : ℕ) (part : Part) (a b : Change) (old new : Composer) → i < length parts
     → part ≡ get_or parts i part → IsComposedSoFar parts i a b old
-    → GoesOn (passed_by part) (left_by_part part) (part_then part) same old new
+    → GoesOn (part_base part) (part_target part) (part_then part) unchanged old new
     → IsComposedSoFar parts (i + 1) a b new
 part_composed parts i part a b old new within is s g =
     let others : Change = norm (drop (i + 1) parts) in
@@ -69,7 +69,7 @@ part_composed parts i part a b old new within is s g =
 
 -- at the end what is made is the composition
 pub composed_at_end : (parts : List Part) (i : ℕ) (a b : Change) (old new : Composer) → length parts ≤ i
-    → IsComposedSoFar parts i a b old → GoesOn 0 0 same same old new → HasNoTextFirst new.rest → IsNormal new.rest
+    → IsComposedSoFar parts i a b old → GoesOn 0 0 unchanged unchanged old new → HasNoTextFirst new.rest → IsNormal new.rest
     → new.made ≡ comp a b
 composed_at_end parts i a b old new past s g none normal =
     let e : norm (drop i parts) ≡ nothing = ap norm (drop_all i parts past) in

@@ -3,7 +3,7 @@ use Rattle.std.proofs.Common.{◌≡◌, ℕ, ◌+◌, ◌<◌, ◌≤◌, ◌�
 use Rattle.std.proofs.lemmas.List.{drop_more}
 use Rattle.ot_text.specs.declared.op.TheConstants.{MAX_LEN}
 use Rattle.ot_text.specs.Change.{Change, base, target, inserted}
-use Rattle.ot_transform.specs.Chain.{through, IsRun, run_end, HasRoom}
+use Rattle.ot_transform.specs.Chain.{through, IsChain, chain_end, ChainFits}
 use Rattle.ot_transform.specs.Transform.{left}
 use Rattle.ot_transform.proofs.Lengths.{inserted-left}
 use Rattle.ot_transform.proofs.Merge.{base-left}
@@ -11,8 +11,8 @@ use Rattle.ot_transform.proofs.Merge.{base-left}
 -- moved through the first i of the run, the operation has to go through the others
 pub record IsThroughSoFar (bs : List Change) (i : ℕ) (op a : Change) : Type 0 where
   pub whole : through op (drop i bs) ≡ through a bs
-  pub run : IsRun (base op) (drop i bs)
-  pub room : HasRoom (inserted op) (drop i bs)
+  pub run : IsChain (base op) (drop i bs)
+  pub room : ChainFits (inserted op) (drop i bs)
 
 split : (bs : List Change) (i : ℕ) (b : Change) → i < length bs → b ≡ get_or bs i b → drop i bs ≡ b ∷ drop (i + 1) bs
 split bs i b within is = drop_more bs i b within ∙ ap (λ x. x ∷ drop (i + 1) bs) (sym is)
@@ -21,8 +21,8 @@ split bs i b within is = drop_more bs i b within ∙ ap (λ x. x ∷ drop (i + 1
 pub next_fits : (bs : List Change) (i : ℕ) (b op a : Change) → i < length bs → b ≡ get_or bs i b
     → IsThroughSoFar bs i op a → (base op ≡ base b) × (target b + inserted op ≤ MAX_LEN)
 next_fits bs i b op a within is s =
-    let run : IsRun (base op) (b ∷ drop (i + 1) bs) = rw (split bs i b within is) at s.run in
-    let room : HasRoom (inserted op) (b ∷ drop (i + 1) bs) = rw (split bs i b within is) at s.room in
+    let run : IsChain (base op) (b ∷ drop (i + 1) bs) = rw (split bs i b within is) at s.run in
+    let room : ChainFits (inserted op) (b ∷ drop (i + 1) bs) = rw (split bs i b within is) at s.room in
     (sym run.0, room.0)
 
 -- one operation of the chain further
@@ -30,8 +30,8 @@ pub moved_on : (bs : List Change) (i : ℕ) (b op a : Change) → i < length bs 
     → IsThroughSoFar bs i op a → IsThroughSoFar bs (i + 1) (left op b) a
 moved_on bs i b op a within is s =
     let e : drop i bs ≡ b ∷ drop (i + 1) bs = split bs i b within is in
-    let run : IsRun (base op) (b ∷ drop (i + 1) bs) = rw e at s.run in
-    let room : HasRoom (inserted op) (b ∷ drop (i + 1) bs) = rw e at s.room in
+    let run : IsChain (base op) (b ∷ drop (i + 1) bs) = rw e at s.run in
+    let room : ChainFits (inserted op) (b ∷ drop (i + 1) bs) = rw e at s.room in
     let same : base op ≡ base b = sym run.0 in
     record {
       whole = ap (through op) (sym e) ∙ s.whole;
@@ -45,27 +45,27 @@ through-append a [] cs = refl
 through-append a (b ∷ bs) cs = through-append (left a b) bs cs
 
 -- an operation moved through a chain puts in as much as before
-pub inserted-through : (a : Change) (bs : List Change) → IsRun (base a) bs → inserted (through a bs) ≡ inserted a
+pub inserted-through : (a : Change) (bs : List Change) → IsChain (base a) bs → inserted (through a bs) ≡ inserted a
 inserted-through a [] run = refl
 inserted-through a (b ∷ bs) run =
     let same : base a ≡ base b = sym run.0 in
     inserted-through (left a b) bs (rw (base-left a b same) run.1) ∙ inserted-left a b same
 
 -- an operation moved through a chain has the length that the chain leads to as its base
-pub base-through : (a : Change) (bs : List Change) → IsRun (base a) bs → base (through a bs) ≡ run_end (base a) bs
+pub base-through : (a : Change) (bs : List Change) → IsChain (base a) bs → base (through a bs) ≡ chain_end (base a) bs
 base-through a [] run = refl
 base-through a (b ∷ bs) run =
     let moved : base (left a b) ≡ target b = base-left a b (sym run.0) in
-    base-through (left a b) bs (rw moved run.1) ∙ ap (λ n. run_end n bs) moved
+    base-through (left a b) bs (rw moved run.1) ∙ ap (λ n. chain_end n bs) moved
 
 -- a run in two parts
-pub IsRun-append : (n : ℕ) (bs cs : List Change) → IsRun n (bs ++ cs) ↔ (IsRun n bs × IsRun (run_end n bs) cs)
+pub IsRun-append : (n : ℕ) (bs cs : List Change) → IsChain n (bs ++ cs) ↔ (IsChain n bs × IsChain (chain_end n bs) cs)
 IsRun-append n [] cs = (λ run. (tt, run), λ runs. runs.1)
 IsRun-append n (b ∷ bs) cs =
     let rest = IsRun-append (target b) bs cs in
     (λ run. let runs = rest.0 run.1 in ((run.0, runs.0), runs.1), λ runs. (runs.0.0, rest.1 (runs.0.1, runs.1)))
 
 -- where two chains in a row lead
-pub run_end-append : (n : ℕ) (bs cs : List Change) → run_end n (bs ++ cs) ≡ run_end (run_end n bs) cs
-run_end-append n [] cs = refl
-run_end-append n (b ∷ bs) cs = run_end-append (target b) bs cs
+pub chain_end-append : (n : ℕ) (bs cs : List Change) → chain_end n (bs ++ cs) ≡ chain_end (chain_end n bs) cs
+chain_end-append n [] cs = refl
+chain_end-append n (b ∷ bs) cs = chain_end-append (target b) bs cs

@@ -10,16 +10,16 @@ through a [] = a
 through a (b ∷ bs) = through (left a b) bs
 
 -- a run on a text of length n: the first base is n, and each other one is the target before it
-abbrev pub IsRun : ℕ → List Change → Type 0
-IsRun n [] = Unit {0}
-IsRun n (b ∷ bs) = (base b ≡ n) × IsRun (target b) bs
+abbrev pub IsChain : ℕ → List Change → Type 0
+IsChain n [] = Unit {0}
+IsChain n (b ∷ bs) = (base b ≡ n) × IsChain (target b) bs
 
 -- the length of the text that a run on a text of length n leads to: the last target, and n where the run is empty
-abbrev pub run_end : ℕ → List Change → ℕ
-run_end n [] = n
-run_end n (b ∷ bs) = run_end (target b) bs
+abbrev pub chain_end : ℕ → List Change → ℕ
+chain_end n [] = n
+chain_end n (b ∷ bs) = chain_end (target b) bs
 
 -- each target has room for so many more characters
-abbrev pub HasRoom : ℕ → List Change → Type 0
-HasRoom more [] = Unit {0}
-HasRoom more (b ∷ bs) = (target b + more ≤ MAX_LEN) × HasRoom more bs
+abbrev pub ChainFits : ℕ → List Change → Type 0
+ChainFits more [] = Unit {0}
+ChainFits more (b ∷ bs) = (target b + more ≤ MAX_LEN) × ChainFits more bs

@@ -1,6 +1,6 @@
 -- The merge of two operations on one base, gap by gap.
 use Rattle.std.specs.Prelude.{ℕ, zero, suc, ◌&&◌, if◌then◌else◌, List, [], ◌++◌, length, map, take, drop}
-use Rattle.ot_text.specs.Change.{Change, ins, kept}
+use Rattle.ot_text.specs.Change.{Change, ins, keeps_place}
 
 -- what f gives at i, at i + 1 and so on, n times
 abbrev pub each_from : {X : Type 0} → (ℕ → List X) → ℕ → ℕ → List X
@@ -22,7 +22,7 @@ at_place m i = take 1 (drop i m)
 abbrev pub merge_at : {X : Type 0} → (ℕ → X) → Change → (ℕ → X) → Change → List X → ℕ → List X
 merge_at new_a a new_b b m i =
     map new_a (ins a i)
-    ++ (map new_b (ins b i) ++ (if kept a i && kept b i then at_place m i else []))
+    ++ (map new_b (ins b i) ++ (if keeps_place a i && keeps_place b i then at_place m i else []))
 
 -- the merge of two operations on m
 abbrev pub merge : {X : Type 0} → (ℕ → X) → Change → (ℕ → X) → Change → List X → List X

@@ -11,8 +11,8 @@ abbrev pub whole_with : Change → Composer → Change
 whole_with c now = then now.made (comp c (norm now.rest))
 
 -- the first operation with nothing more in front
-abbrev pub same : Change → Change
-same c = c
+abbrev pub unchanged : Change → Change
+unchanged c = c
 
 -- there is room for `over` more places of the base, and the second operation has `used` places left
 pub record HasRoomFor (over used : ℕ) (now : Composer) : Type 0 where

@@ -12,11 +12,11 @@ shortened used (Insert t ∷ parts) = Insert t ∷ parts
 shortened used (Delete k ∷ parts) = Delete (k - used) ∷ parts
 
 -- how many places the first part goes over: none if it is an insert, or if there is no part
-abbrev pub first_run : List Part → ℕ
-first_run [] = 0
-first_run (Retain k ∷ parts) = k
-first_run (Insert t ∷ parts) = 0
-first_run (Delete k ∷ parts) = k
+abbrev pub first_span : List Part → ℕ
+first_span [] = 0
+first_span (Retain k ∷ parts) = k
+first_span (Insert t ∷ parts) = 0
+first_span (Delete k ∷ parts) = k
 
 -- whether the first part keeps its places
 abbrev pub first_keeps : List Part → Bool

@@ -24,6 +24,6 @@ right_step (SecondDeletes n) = delete_then n nothing
 right_step (BothDelete n) = nothing
 
 -- there is room for what the step does behind what is made
-pub record Fits (made step : Change) : Type 0 where
+pub record StepFits (made step : Change) : Type 0 where
   pub of_base : base made + base step ≤ MAX_LEN
   pub of_target : target made + target step ≤ MAX_LEN

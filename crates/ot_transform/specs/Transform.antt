@@ -1,6 +1,6 @@
 -- Two operations on one base, each moved through the other.
 use Rattle.std.specs.Prelude.{ℕ, zero, suc, ◌+◌, ◌&&◌, if◌then◌else◌, List, [], ◌∷◌, ◌++◌, length, map}
-use Rattle.ot_text.specs.Change.{Fate, Gone, Kept, Change, Item, Old, New, places_from, ins, kept, base, text_behind, nothing, insert_then, retain_then, delete_then}
+use Rattle.ot_text.specs.Change.{Fate, Gone, Kept, Change, Item, Old, New, places_from, ins, keeps_place, base, text_behind, nothing, insert_then, retain_then, delete_then}
 use Rattle.ot_transform.specs.Merge.{each_gap}
 
 -- what an operation does to one place, seen from behind the other one: nothing if the other
@@ -45,11 +45,11 @@ right b a = right_gap_then a.start b.start (right_on b.places a.places)
 -- how many characters the target has in front of what stands at gap i
 abbrev pub gap_place : Change → ℕ → ℕ
 gap_place c zero = 0
-gap_place c (suc i) = gap_place c i + length (ins c i) + (if kept c i then 1 else 0)
+gap_place c (suc i) = gap_place c i + length (ins c i) + (if keeps_place c i then 1 else 0)
 
 -- what stands in the target at gap i: the characters that are put in there, and then place i, if it is kept
 abbrev pub image_at : Change → ℕ → List Item
-image_at c i = map New (ins c i) ++ (if kept c i then Old i ∷ [] else [])
+image_at c i = map New (ins c i) ++ (if keeps_place c i then Old i ∷ [] else [])
 
 -- the places that the text of gap i has in the target
 abbrev pub ins_places : Change → ℕ → List Item
@@ -64,7 +64,7 @@ kept_place c i = Old (gap_place c i + length (ins c i))
 abbrev pub left_at : Change → Change → ℕ → List Item
 left_at a b i =
     map New (ins a i)
-    ++ (ins_places b i ++ (if kept a i && kept b i then kept_place b i ∷ [] else []))
+    ++ (ins_places b i ++ (if keeps_place a i && keeps_place b i then kept_place b i ∷ [] else []))
 
 -- the image of `left`
 abbrev pub left_image : Change → Change → List Item
@@ -75,7 +75,7 @@ left_image a b = each_gap (left_at a b) (base a)
 abbrev pub right_at : Change → Change → ℕ → List Item
 right_at b a i =
     ins_places a i
-    ++ (map New (ins b i) ++ (if kept b i && kept a i then kept_place a i ∷ [] else []))
+    ++ (map New (ins b i) ++ (if keeps_place b i && keeps_place a i then kept_place a i ∷ [] else []))
 
 -- the image of `right`
 abbrev pub right_image : Change → Change → List Item

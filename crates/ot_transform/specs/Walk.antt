@@ -52,5 +52,5 @@ IsStep step old new =
     Leads step (norm old.first) (norm old.second) (norm new.first) (norm new.second)
 
 -- nothing is left to walk over
-abbrev pub IsAtEnd : Walk → Type 0
-IsAtEnd walk = IsOver (norm walk.first) (norm walk.second)
+abbrev pub IsWalkedOut : Walk → Type 0
+IsWalkedOut walk = IsOver (norm walk.first) (norm walk.second)

@@ -1,7 +1,7 @@
 //! An operation moved through others.
 ghost use Rattle.std.specs.Prelude.{◌≡◌, ◌+◌, ◌≤◌, IfOk};
 ghost use Rattle.ot_text.specs.Change.{base, target, inserted};
-ghost use Rattle.ot_transform.specs.Chain.{through, IsRun, HasRoom};
+ghost use Rattle.ot_transform.specs.Chain.{through, IsChain, ChainFits};
 ghost use Rattle.ot_transform.specs.Transform.{left};
 
 use crate::walk::Walk;
@@ -35,8 +35,8 @@ pub fn try_left_of(alloc: Global, a: &Op, b: &Op) -> Result<Op, AllocError>
 
 /// The operation moved through a run of others, one after another.
 pub fn left_through(alloc: Global, a: &Op, bs: &[Op]) -> Result<Op, AllocError>
-    requires run { IsRun (base a.now) bs.now }
-    requires room { HasRoom (inserted a.now) bs.now }
+    requires run { IsChain (base a.now) bs.now }
+    requires room { ChainFits (inserted a.now) bs.now }
     ensures { IfOk result (λ op. op ≡ through a.now bs.now) }
 {
     let mut op = a.try_clone()?;

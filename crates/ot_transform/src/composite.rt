@@ -1,10 +1,10 @@
 //! Two operations in a row, as one.
 ghost use Rattle.std.specs.Prelude.{◌≡◌, ◌+◌, ◌-◌, ◌≤◌, IfOk, OnOk, length, drop};
 ghost use Rattle.ot_text.specs.Change.{base, target, insert_then, retain_then};
-ghost use Rattle.ot_text.specs.Parts.{norm, part_then, passed_by, left_by_part, IsNormal};
+ghost use Rattle.ot_text.specs.Parts.{norm, part_then, part_base, part_target, IsNormal};
 ghost use Rattle.ot_transform.specs.Composition.{comp};
-ghost use Rattle.ot_transform.specs.Progress.{same, GoesOn, HasRoomFor};
-ghost use Rattle.ot_transform.specs.Rest.{first_run, HasNoTextFirst};
+ghost use Rattle.ot_transform.specs.Progress.{unchanged, GoesOn, HasRoomFor};
+ghost use Rattle.ot_transform.specs.Rest.{first_span, HasNoTextFirst};
 
 use crate::rest::Rest;
 use ot_text::{Op, OpBuilder, Part};
@@ -38,9 +38,9 @@ struct Composer<'a> {
 impl Composer<'_> {
     // Goes on by one part of the first operation.
     fn add_part(&mut self, part: &Part) -> Result<(), AllocError>
-        requires { HasRoomFor (passed_by part.now) (left_by_part part.now) self.old }
+        requires { HasRoomFor (part_base part.now) (part_target part.now) self.old }
         ensures { OnOk result
-            (GoesOn (passed_by part.now) (left_by_part part.now) (part_then part.now) same
+            (GoesOn (part_base part.now) (part_target part.now) (part_then part.now) unchanged
             self.old self.new) }
     {
         match part {
@@ -54,7 +54,7 @@ impl Composer<'_> {
     fn add_text(&mut self, chars: &[char]) -> Result<(), AllocError>
         requires { HasRoomFor 0 (length chars.now) self.old }
         ensures { OnOk result
-            (GoesOn 0 (length chars.now) (insert_then chars.now) same self.old self.new) }
+            (GoesOn 0 (length chars.now) (insert_then chars.now) unchanged self.old self.new) }
     {
         let mut at = 0;
         while at < chars.len() {
@@ -83,7 +83,7 @@ impl Composer<'_> {
     // Goes on by places that the first operation keeps.
     fn add_places(&mut self, places: u64) -> Result<(), AllocError>
         requires { HasRoomFor places places self.old }
-        ensures { OnOk result (GoesOn places places (retain_then places) same self.old self.new) }
+        ensures { OnOk result (GoesOn places places (retain_then places) unchanged self.old self.new) }
     {
         let mut left = places;
         while left > 0 {
@@ -113,10 +113,10 @@ impl Composer<'_> {
     // Puts in the text that the second operation puts in next, if there is one.
     fn put_text(&mut self) -> Result<(), AllocError>
         requires { HasRoomFor 0 0 self.old }
-        ensures goes_on { OnOk result (GoesOn 0 0 same same self.old self.new) }
+        ensures goes_on { OnOk result (GoesOn 0 0 unchanged unchanged self.old self.new) }
         ensures none_left { OnOk result (HasNoTextFirst self.new.rest) }
         ensures normal { OnOk result (IsNormal self.new.rest) }
-        ensures run { OnOk result (1 ≤ base (norm self.new.rest) → 1 ≤ first_run self.new.rest) }
+        ensures run { OnOk result (1 ≤ base (norm self.new.rest) → 1 ≤ first_span self.new.rest) }
     {
         if let Some(text) = self.rest.take_text() {
             self.made.insert(text)?;

@@ -1,7 +1,7 @@
 //! Laws of transformation, chains and composition: each is the contract of an empty function.
 ghost use Rattle.std.specs.Prelude.{◌≡◌, ◌↔◌, ◌++◌, List, ℕ, Some, IsTrue, length, map};
-ghost use Rattle.ot_text.specs.Change.{Change, Old, New, base, target, inserted, effect, filled, image, ins, kept};
-ghost use Rattle.ot_transform.specs.Chain.{through, IsRun, run_end};
+ghost use Rattle.ot_text.specs.Change.{Change, Old, New, base, target, inserted, effect, item_element, image, ins, keeps_place};
+ghost use Rattle.ot_transform.specs.Chain.{through, IsChain, chain_end};
 ghost use Rattle.ot_transform.specs.Composition.{comp};
 ghost use Rattle.ot_transform.specs.Merge.{each_from, each_gap, merge};
 ghost use Rattle.ot_transform.specs.Transform.{left, right, gap_place, image_at, ins_places, kept_place, left_image, right_image};
@@ -40,9 +40,9 @@ pub fn places_law()
     ensures image { (c : Change) → image c ≡ each_gap (image_at c) (base c) }
     ensures gap_place { (c : Change) (i : ℕ) → gap_place c i ≡ length (each_from (image_at c) 0 i) }
     ensures ins_places { (c : Change) (i : ℕ)
-        → map (filled New (image c)) (ins_places c i) ≡ map Some (map New (ins c i)) }
-    ensures kept_place { (c : Change) (i : ℕ) → IsTrue (kept c i)
-        → filled New (image c) (kept_place c i) ≡ Some (Old i) }
+        → map (item_element New (image c)) (ins_places c i) ≡ map Some (map New (ins c i)) }
+    ensures kept_place { (c : Change) (i : ℕ) → IsTrue (keeps_place c i)
+        → item_element New (image c) (kept_place c i) ≡ Some (Old i) }
 {}
 
 /// The composition has the first one's base, and the second one's image with each place replaced by
@@ -50,7 +50,7 @@ pub fn places_law()
 pub fn composed_image_law()
     ensures base { (a b : Change) → target a ≡ base b → base (comp a b) ≡ base a }
     ensures image { (a b : Change) → target a ≡ base b
-        → map Some (image (comp a b)) ≡ map (filled New (image a)) (image b) }
+        → map Some (image (comp a b)) ≡ map (item_element New (image a)) (image b) }
 {}
 
 /// Two runs one behind the other, the second on the text that the first leads to, are one run and are moved through as
@@ -58,14 +58,14 @@ pub fn composed_image_law()
 pub fn chain_law()
     ensures append { (a : Change) (bs cs : List Change)
         → through a (bs ++ cs) ≡ through (through a bs) cs }
-    ensures inserted { (a : Change) (bs : List Change) → IsRun (base a) bs
+    ensures inserted { (a : Change) (bs : List Change) → IsChain (base a) bs
         → inserted (through a bs) ≡ inserted a }
-    ensures base { (a : Change) (bs : List Change) → IsRun (base a) bs
-        → base (through a bs) ≡ run_end (base a) bs }
+    ensures base { (a : Change) (bs : List Change) → IsChain (base a) bs
+        → base (through a bs) ≡ chain_end (base a) bs }
     ensures two_runs { (n : ℕ) (bs cs : List Change)
-        → IsRun n (bs ++ cs) ↔ (IsRun n bs × IsRun (run_end n bs) cs) }
+        → IsChain n (bs ++ cs) ↔ (IsChain n bs × IsChain (chain_end n bs) cs) }
     ensures two_ends { (n : ℕ) (bs cs : List Change)
-        → run_end n (bs ++ cs) ≡ run_end (run_end n bs) cs }
+        → chain_end n (bs ++ cs) ≡ chain_end (chain_end n bs) cs }
 {}
 
 /// A moved operation puts in as many characters as before, both ways round the text has one length,

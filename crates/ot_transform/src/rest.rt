@@ -2,7 +2,7 @@
 ghost use Rattle.std.specs.Prelude.{◌≡◌, ◌≤◌, ◌∷◌, MatchOption};
 ghost use Rattle.ot_text.specs.declared.part.Part.TheVariants.{Insert};
 ghost use Rattle.ot_text.specs.Parts.{IsNormal, norm};
-ghost use Rattle.ot_transform.specs.Rest.{first_run, places_then, HasNoTextFirst};
+ghost use Rattle.ot_transform.specs.Rest.{first_span, places_then, HasNoTextFirst};
 
 use ot_text::{Part, Text};
 use std::marker::Model;
@@ -60,7 +60,7 @@ impl<'a> Rest<'a> {
 
     // How many places the first part goes over: none if it is an insert, or if no part is left.
     pub(crate) fn run(&self) -> u64
-        ensures value { result ≡ first_run self.now }
+        ensures value { result ≡ first_span self.now }
         ensures normal { IsNormal self.now }
     {
         match self.parts.first() {
@@ -72,7 +72,7 @@ impl<'a> Rest<'a> {
     // Goes on by so many places of the first part, and answers whether it keeps them.
     pub(crate) fn skip(&mut self, places: u64) -> bool
         requires some { 1 ≤ places }
-        requires within { places ≤ first_run self.old }
+        requires within { places ≤ first_span self.old }
         ensures { norm self.old ≡ places_then result places (norm self.new) }
     {
         let Some((first, others)) = self.parts.split_first() else {

@@ -1,7 +1,7 @@
 //! One step of a walk over two operations on one base.
 ghost use Rattle.std.specs.Prelude.{◌≡◌, OnOk, OnErr};
 ghost use Rattle.ot_text.specs.Change.{Change, then};
-ghost use Rattle.ot_transform.specs.Step.{left_step, right_step, Fits};
+ghost use Rattle.ot_transform.specs.Step.{left_step, right_step, StepFits};
 ghost use Rattle.ot_transform.specs.Walk.{GoesOver, Leads};
 
 use ot_text::{OpBuilder, Text};
@@ -35,7 +35,7 @@ impl<'a> Step<'a> {
     // Puts behind `made` what the step does in the first operation, moved through the second.
     #[tactic(auto, using(crate::proofs::StepLengths::step_lengths))]
     pub(crate) fn put_left(&self, made: &mut OpBuilder) -> Result<(), AllocError>
-        requires { Fits made.old (left_step self.now) }
+        requires { StepFits made.old (left_step self.now) }
         ensures ok { OnOk result (made.new ≡ then made.old (left_step self.now)) }
         ensures err { OnErr result (made.new ≡ made.old) }
     {
@@ -51,7 +51,7 @@ impl<'a> Step<'a> {
     // Puts behind `made` what the step does in the second operation, moved through the first.
     #[tactic(auto, using(crate::proofs::StepLengths::step_lengths))]
     pub(crate) fn put_right(&self, made: &mut OpBuilder) -> Result<(), AllocError>
-        requires { Fits made.old (right_step self.now) }
+        requires { StepFits made.old (right_step self.now) }
         ensures ok { OnOk result (made.new ≡ then made.old (right_step self.now)) }
         ensures err { OnErr result (made.new ≡ made.old) }
     {

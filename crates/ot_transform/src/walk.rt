@@ -1,7 +1,7 @@
 //! A walk over two operations on one base.
 ghost use Rattle.std.specs.Prelude.{◌≡◌, MatchOption};
 ghost use Rattle.ot_text.specs.Parts.{IsNormal};
-ghost use Rattle.ot_transform.specs.Walk.{HasOneBase, IsAtEnd, IsStep};
+ghost use Rattle.ot_transform.specs.Walk.{HasOneBase, IsWalkedOut, IsStep};
 
 use crate::rest::Rest;
 use crate::step::Step;
@@ -33,7 +33,7 @@ impl<'a> Walk<'a> {
     // The next step, or none at the end. Where both put a text in, the first one's comes first.
     pub(crate) fn step(&mut self) -> Option<Step<'a>>
         requires { HasOneBase self.old }
-        ensures { MatchOption result (IsAtEnd self.old) (λ step. IsStep step self.old self.new) }
+        ensures { MatchOption result (IsWalkedOut self.old) (λ step. IsStep step self.old self.new) }
     {
         if let Some(text) = self.first.take_text() {
             return Some(Step::First(text));

@@ -10,18 +10,18 @@ use Rattle.client_state.specs.Causes.{EntryFits}
 use Rattle.client_state.proofs.FitsOn.{typed_bases, told_bases, own_bases, fits_front}
 use Rattle.stage_state.specs.declared.act.Act.{Act}
 use Rattle.stage_state.specs.declared.act.Act.TheVariants as act
-use Rattle.stage_state.specs.Machine.{Machine, machine_from, document, standing, take_own, take_other, send_from, after_act, after_acts, CanAct, IsPlayed}
+use Rattle.stage_state.specs.Machine.{Machine, machine_from, document, standing, after_own_edit, after_other_entry, after_sending, after_act, after_acts, CanAct, IsPlayed}
 use Rattle.stage_state.specs.Staged.{Staged, acts_of, first_machine, machine, with_act, IsStagePlayed}
 use Rattle.stage_state.proofs.Machine.{acts_of-one_more, doc_told-one_more}
 
 -- placed acts with one more that can be placed
-pub played-one_more : (acts : List Act) (a : Act) (m : Machine) → IsPlayed m acts → CanAct (after_acts acts m) a → IsPlayed m (acts ++ a ∷ [])
-played-one_more [] a m played can = (can, tt)
-played-one_more (b ∷ acts) a m played can = (played.0, played-one_more acts a (after_act b m) played.1 can)
+pub stage_after-one_more : (acts : List Act) (a : Act) (m : Machine) → IsPlayed m acts → CanAct (after_acts acts m) a → IsPlayed m (acts ++ a ∷ [])
+stage_after-one_more [] a m played can = (can, tt)
+stage_after-one_more (b ∷ acts) a m played can = (played.0, stage_after-one_more acts a (after_act b m) played.1 can)
 
 -- of a stage
 pub stage_placed : (seat : ℕ) (a : Act) (s : Staged) → IsStagePlayed s → CanAct (machine s) a → IsStagePlayed (with_act seat a s)
-stage_placed seat a s played can = rw (acts_of-one_more s.acts seat a) (played-one_more (acts_of s.acts) a (first_machine s) played can)
+stage_placed seat a s played can = rw (acts_of-one_more s.acts seat a) (stage_after-one_more (acts_of s.acts) a (first_machine s) played can)
 
 -- a front of placed acts is placed, and the rest behind it
 pub played_front : (xs ys : List Act) (m : Machine) → IsPlayed m (xs ++ ys) → IsPlayed m xs × IsPlayed (after_acts xs m) ys
@@ -32,7 +32,7 @@ played_front (a ∷ xs) ys m played = let rest = played_front xs ys (after_act a
 abbrev pub PendingFits : Machine → Type 0
 PendingFits m = FitsOn m.pending (length (document m))
 
-taken_fits : (b : Bool) (m : Machine) (e : Entry) → EntryFits b (standing m) e → PendingFits m → PendingFits (if b then take_own e m else take_other e m)
+taken_fits : (b : Bool) (m : Machine) (e : Entry) → EntryFits b (standing m) e → PendingFits m → PendingFits (if b then after_own_edit e m else after_other_entry e m)
 taken_fits true m e fits f =
     subst (λ (d : Marked). FitsOn (after_own m.pending) (length d)) (sym (doc_told-one_more m.text m.entries e))
     (own_bases e.who m.pending (op_told e.deed) (document m) fits f)
@@ -40,7 +40,7 @@ taken_fits false m e fits f =
     subst (λ (d : Marked). FitsOn (after_told m.pending (op_told e.deed)) (length d)) (sym (doc_told-one_more m.text m.entries e))
     (told_bases e.who m.pending (op_told e.deed) (document m) f (fits_front m.own m.pending (op_told e.deed) (document m) f fits))
 
-sent_fits : (calls : List Call) (m : Machine) → PendingFits m → PendingFits (send_from calls m)
+sent_fits : (calls : List Call) (m : Machine) → PendingFits m → PendingFits (after_sending calls m)
 sent_fits [] m f = f
 sent_fits (c ∷ calls) m f = f
 

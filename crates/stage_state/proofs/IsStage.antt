@@ -7,7 +7,7 @@ use Rattle.client_state.specs.Standing.{Standing}
 use Rattle.client_state.specs.Causes.{CanEdit, CanTake}
 use Rattle.stage_state.specs.declared.act.Act.{Act}
 use Rattle.stage_state.specs.declared.act.Act.TheVariants as act
-use Rattle.stage_state.specs.Machine.{Machine, type_op, take_entry, after_act, CanAct}
+use Rattle.stage_state.specs.Machine.{Machine, after_typing, after_entry_taken, after_act, CanAct}
 use Rattle.stage_state.specs.Staged.{Staged, acts_of, first_machine, machine, with_act, last_acts}
 use Rattle.stage_state.specs.StageInvariant.{KeptValue, Keeps, KeepsMarks, IsStage}
 use Rattle.stage_state.proofs.Machine.{machine-with_act, machine-own, act_follows, acts_follow}
@@ -42,20 +42,20 @@ act_kept seat a s old new acts after room made left last is can does keeps one_m
 
 -- what is kept, behind a local edit
 pub type_stage : (seat : ℕ) (op : Change) (s : Staged) (old new : KeptValue) (acts : List (ℕ × Act)) (room made left last : ℕ)
-    → IsStage s old room → (old.finishing || (old.halted || old.gone)) ≡ false → CanEdit old.client op → Keeps new (type_op op (machine s))
+    → IsStage s old room → (old.finishing || (old.halted || old.gone)) ≡ false → CanEdit old.client op → Keeps new (after_typing op (machine s))
     → acts ≡ s.acts ++ (seat, act.Typed op) ∷ [] → KeepsMarks old new → last ≡ last_acts old.finishing old.halted → made ≡ max (last + 1) room → left + 1 ≡ made
     → IsStage (record s { own = new.client.own; acts = acts }) new left
 type_stage seat op s old new acts room made left last is «open» fits keeps one_more marks count ready push =
-    act_kept seat (act.Typed op) s old new acts (type_op op (machine s)) room made left last is
+    act_kept seat (act.Typed op) s old new acts (after_typing op (machine s)) room made left last is
     (sym (closed_is old (machine s) is.keeps) ∙ «open», fits ∙ ap length (held_is old (machine s) is.keeps)) refl keeps one_more marks count ready push
 
 -- what is kept, behind an entry
 pub take_stage : (seat : ℕ) (e : Entry) (s : Staged) (old new : KeptValue) (acts : List (ℕ × Act)) (room made left last : ℕ)
-    → IsStage s old room → old.gone ≡ false → CanTake old.client e → Keeps new (take_entry e (machine s))
+    → IsStage s old room → old.gone ≡ false → CanTake old.client e → Keeps new (after_entry_taken e (machine s))
     → acts ≡ s.acts ++ (seat, act.Take e) ∷ [] → KeepsMarks old new → last ≡ last_acts old.finishing old.halted → made ≡ max (last + 1) room → left + 1 ≡ made
     → IsStage (record s { own = new.client.own; acts = acts }) new left
 take_stage seat e s old new acts room made left last is stays fits keeps one_more marks count ready push =
-    act_kept seat (act.Take e) s old new acts (take_entry e (machine s)) room made left last is
+    act_kept seat (act.Take e) s old new acts (after_entry_taken e (machine s)) room made left last is
     (sym is.keeps.gone_is ∙ stays, subst (λ (c : Standing). CanTake c e) (client_is old (machine s) is.keeps) fits) refl keeps one_more marks count ready push
 
 -- what is kept, behind `finish`

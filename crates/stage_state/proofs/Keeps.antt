@@ -10,16 +10,16 @@ use Rattle.troop_entry.specs.declared.entry.Deed.TheVariants as deed
 use Rattle.troop_entry.specs.Told.{tells_edit, tells_leave, is_edit_of, is_leave_of}
 use Rattle.client_state.specs.Pending.{after_edit, sent_at_edit, sent_at_entry}
 use Rattle.client_state.specs.Standing.{Standing, pending_on}
-use Rattle.client_state.specs.Steps.{edited, entered}
+use Rattle.client_state.specs.Steps.{client_after_edit, client_after_entry}
 use Rattle.client_state.specs.Causes.{CanEdit, CanTake}
 use Rattle.client_state.proofs.StandsOn.{edited_stands, entered_stands}
 use Rattle.stage_state.specs.declared.act.Next.TheVariants as next
-use Rattle.stage_state.specs.Machine.{Machine, taken, document, held, standing, is_closed, edit_asked, ask, type_op, take_own, take_other, take_entry}
+use Rattle.stage_state.specs.Machine.{Machine, taken_count, document, held_text, standing, is_closed, edit_asked, after_asking, after_typing, after_own_edit, after_other_entry, after_entry_taken}
 use Rattle.stage_state.specs.StageInvariant.{KeptValue, Keeps}
 use Rattle.stage_state.proofs.Machine.{doc_told-one_more}
 
 -- the client holds what the machine says
-pub held_is : (k : KeptValue) (m : Machine) → Keeps k m → k.client.held ≡ held m
+pub held_is : (k : KeptValue) (m : Machine) → Keeps k m → k.client.held ≡ held_text m
 held_is k m h = h.stands.holds ∙ ap (λ own. pending_on own k.client.state (document m)) h.own ∙ ap (λ s. pending_on m.own s (document m)) h.state
 
 -- and is what the machine says of it
@@ -29,7 +29,7 @@ client_is k m h =
     ap (λ own. record { own = own; state = c.state; held = c.held; taken = c.taken }) h.own
     ∙ ap (λ state. record { own = m.own; state = state; held = c.held; taken = c.taken }) h.state
     ∙ ap (λ text. record { own = m.own; state = m.pending; held = text; taken = c.taken }) (held_is k m h)
-    ∙ ap (λ count. record { own = m.own; state = m.pending; held = held m; taken = count }) h.taken_is
+    ∙ ap (λ count. record { own = m.own; state = m.pending; held = held_text m; taken = count }) h.taken_is
 
 -- whether a stage asks no more is its machine's
 pub closed_is : (k : KeptValue) (m : Machine) → Keeps k m → (k.finishing || (k.halted || k.gone)) ≡ is_closed m
@@ -41,7 +41,7 @@ closed_is k m h =
 -- ---- acts
 
 -- what is kept is the machine's, with calls that join those to go out
-pub keeps_asked : (k : KeptValue) (m : Machine) (calls : List Call) → Keeps k m → Keeps (record k { outgoing = k.outgoing ++ calls }) (ask calls m)
+pub keeps_asked : (k : KeptValue) (m : Machine) (calls : List Call) → Keeps k m → Keeps (record k { outgoing = k.outgoing ++ calls }) (after_asking calls m)
 keeps_asked k m calls h = record {
   own = h.own;
   state = h.state;
@@ -57,7 +57,7 @@ keeps_asked k m calls h = record {
 
 -- what is kept is the machine's, behind a local edit
 pub keeps_typed : (k : KeptValue) (m : Machine) (op : Change) → CanEdit k.client op → Keeps k m
-    → Keeps (record k { client = edited op k.client; outgoing = k.outgoing ++ edit_asked k.client.taken (sent_at_edit k.client.state op) }) (type_op op m)
+    → Keeps (record k { client = client_after_edit op k.client; outgoing = k.outgoing ++ edit_asked k.client.taken (sent_at_edit k.client.state op) }) (after_typing op m)
 keeps_typed k m op can h = record {
   own = h.own;
   state = ap (λ s. after_edit s op) h.state;
@@ -82,13 +82,13 @@ no_leave (deed.Reset op) b e = refl
 -- what is kept behind an entry
 abbrev pub kept_entered : Entry → KeptValue → KeptValue
 kept_entered e k = record k {
-  client = entered e k.client;
+  client = client_after_entry e k.client;
   outgoing = k.outgoing ++ edit_asked (k.client.taken + 1) (sent_at_entry k.client.own k.client.state e);
   gone = is_leave_of k.client.own e;
 }
 
 taken_by : (b : Bool) (k : KeptValue) (m : Machine) (e : Entry) → is_edit_of m.own e ≡ b → CanTake k.client e → k.gone ≡ false → Keeps k m
-    → Keeps (kept_entered e k) (if b then take_own e m else take_other e m)
+    → Keeps (kept_entered e k) (if b then after_own_edit e m else after_other_entry e m)
 taken_by true k m e by can stays h = record {
   own = h.own;
   state = rw (h.own, by, h.state) refl;
@@ -115,7 +115,7 @@ taken_by false k m e by can stays h = record {
 }
 
 -- what is kept is the machine's, behind an entry
-pub keeps_taken : (k : KeptValue) (m : Machine) (e : Entry) → CanTake k.client e → k.gone ≡ false → Keeps k m → Keeps (kept_entered e k) (take_entry e m)
+pub keeps_taken : (k : KeptValue) (m : Machine) (e : Entry) → CanTake k.client e → k.gone ≡ false → Keeps k m → Keeps (kept_entered e k) (after_entry_taken e m)
 keeps_taken k m e can stays h = taken_by (is_edit_of m.own e) k m e refl can stays h
 
 -- what is kept is the machine's, behind `finish`

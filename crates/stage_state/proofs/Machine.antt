@@ -6,7 +6,7 @@ use Rattle.troop_entry.specs.declared.call.Call.{Call}
 use Rattle.troop_entry.specs.declared.call.Call.TheVariants as call
 use Rattle.troop_entry.specs.declared.entry.Entry.{Entry}
 use Rattle.troop_entry.specs.declared.row.Row.{Row}
-use Rattle.log_model.specs.Log.{changed_by, doc, entries}
+use Rattle.log_model.specs.Log.{doc_after, doc, entries}
 use Rattle.log_model.specs.Legal.{IsLegal}
 use Rattle.troop_entry.specs.Told.{op_told, is_edit_of}
 use Rattle.log_model.specs.Told.{doc_told}
@@ -19,7 +19,7 @@ use Rattle.stage_state.specs.declared.act.Act.{Act}
 use Rattle.stage_state.specs.declared.act.Act.TheVariants as act
 use Rattle.stage_state.specs.declared.act.Next.{Next}
 use Rattle.stage_state.specs.declared.act.Next.TheVariants as next
-use Rattle.stage_state.specs.Machine.{Machine, machine_from, taken, document, held, type_op, take_own, take_other, take_entry, takes_of, next_of, next_open, next_number, counted_from, sent_pairs, IsSend, send_from, after_act, after_acts}
+use Rattle.stage_state.specs.Machine.{Machine, machine_from, taken_count, document, held_text, after_typing, after_own_edit, after_other_entry, after_entry_taken, takes_of, next_of, next_open, next_number, counted_from, sent_pairs, IsSend, after_sending, after_act, after_acts}
 use Rattle.stage_state.specs.Staged.{Staged, acts_of, first_machine, machine, with_act}
 
 -- ---- the list of acts
@@ -52,14 +52,14 @@ pub record Follows (m n : Machine) (count : ℕ) : Type 0 where
   pub joined : n.joined ≡ m.joined
   pub start : n.start ≡ m.start
   pub text : n.text ≡ m.text
-  pub taken_few : taken n ≤ taken m + count
+  pub taken_few : taken_count n ≤ taken_count m + count
   pub sent_few : length n.sent ≤ length m.sent + count
 
-entry_taken : (e : Entry) (m : Machine) (b : Bool) → Follows m (if b then take_own e m else take_other e m) 1
+entry_taken : (e : Entry) (m : Machine) (b : Bool) → Follows m (if b then after_own_edit e m else after_other_entry e m) 1
 entry_taken e m true = record { own = refl; joined = refl; start = refl; text = refl; taken_few = omega (arith, length-append m.entries (e ∷ [])); sent_few = omega arith }
 entry_taken e m false = record { own = refl; joined = refl; start = refl; text = refl; taken_few = omega (arith, length-append m.entries (e ∷ [])); sent_few = omega arith }
 
-next_sent : (calls : List Call) (m : Machine) → Follows m (send_from calls m) 1
+next_sent : (calls : List Call) (m : Machine) → Follows m (after_sending calls m) 1
 next_sent [] m = record { own = refl; joined = refl; start = refl; text = refl; taken_few = omega arith; sent_few = omega (arith, length-append m.sent (call.Leave ∷ [])) }
 next_sent (c ∷ calls) m = record { own = refl; joined = refl; start = refl; text = refl; taken_few = omega arith; sent_few = omega (arith, length-append m.sent (c ∷ [])) }
 
@@ -85,17 +85,17 @@ acts_follow (a ∷ acts) m =
 pub machine-own : (s : Staged) → (machine s).own ≡ s.own
 machine-own s = (acts_follow (acts_of s.acts) (first_machine s)).own
 
--- the place of the join stays
+-- the position of the join stays
 pub machine-joined : (s : Staged) → (machine s).joined ≡ s.joined
 machine-joined s = (acts_follow (acts_of s.acts) (first_machine s)).joined
 
 -- one more call went out
-pub sent_one_more : (calls : List Call) (m : Machine) → length (send_from calls m).sent ≡ suc (length m.sent)
+pub sent_one_more : (calls : List Call) (m : Machine) → length (after_sending calls m).sent ≡ suc (length m.sent)
 sent_one_more [] m = omega (arith, length-append m.sent (call.Leave ∷ []))
 sent_one_more (c ∷ calls) m = omega (arith, length-append m.sent (c ∷ []))
 
 -- a taken entry sends nothing
-pub taken_sent : (b : Bool) (e : Entry) (m : Machine) → length (if b then take_own e m else take_other e m).sent ≡ length m.sent
+pub taken_sent : (b : Bool) (e : Entry) (m : Machine) → length (if b then after_own_edit e m else after_other_entry e m).sent ≡ length m.sent
 taken_sent true e m = refl
 taken_sent false e m = refl
 
@@ -103,32 +103,32 @@ taken_sent false e m = refl
 
 -- the document that entries tell, one entry further
 pub doc_told-one_more : (m : Marked) (entries : List Entry) (e : Entry)
-    → doc_told m (entries ++ e ∷ []) ≡ changed_by e.who (op_told e.deed) (doc_told m entries)
+    → doc_told m (entries ++ e ∷ []) ≡ doc_after e.who (op_told e.deed) (doc_told m entries)
 doc_told-one_more m [] e = refl
-doc_told-one_more m (x ∷ entries) e = doc_told-one_more (changed_by x.who (op_told x.deed) m) entries e
+doc_told-one_more m (x ∷ entries) e = doc_told-one_more (doc_after x.who (op_told x.deed) m) entries e
 
 -- what goes out leaves the entries taken
-pub sent_entries : (calls : List Call) (m : Machine) → (send_from calls m).entries ≡ m.entries
+pub sent_entries : (calls : List Call) (m : Machine) → (after_sending calls m).entries ≡ m.entries
 sent_entries [] m = refl
 sent_entries (c ∷ calls) m = refl
 
 -- an entry taken joins the entries
-pub taken_entries : (b : Bool) (e : Entry) (m : Machine) → (if b then take_own e m else take_other e m).entries ≡ m.entries ++ e ∷ []
+pub taken_entries : (b : Bool) (e : Entry) (m : Machine) → (if b then after_own_edit e m else after_other_entry e m).entries ≡ m.entries ++ e ∷ []
 taken_entries true e m = refl
 taken_entries false e m = refl
 
 -- the entries taken are those of the acts
 pub entries-after_acts : (acts : List Act) (m : Machine) → (after_acts acts m).entries ≡ m.entries ++ takes_of acts
 entries-after_acts [] m = sym (append-nil m.entries)
-entries-after_acts (act.Typed op ∷ acts) m = entries-after_acts acts (type_op op m)
+entries-after_acts (act.Typed op ∷ acts) m = entries-after_acts acts (after_typing op m)
 entries-after_acts (act.Eval place ∷ acts) m = entries-after_acts acts (after_act (act.Eval place) m)
 entries-after_acts (act.Reset text ∷ acts) m = entries-after_acts acts (after_act (act.Reset text) m)
 entries-after_acts (act.Take e ∷ acts) m =
-    entries-after_acts acts (take_entry e m)
+    entries-after_acts acts (after_entry_taken e m)
     ∙ ap (λ before. before ++ takes_of acts) (taken_entries (is_edit_of m.own e) e m)
     ∙ append_assoc m.entries (e ∷ []) (takes_of acts)
 entries-after_acts (act.Next ∷ acts) m =
-    entries-after_acts acts (send_from m.outgoing m) ∙ ap (λ before. before ++ takes_of acts) (sent_entries m.outgoing m)
+    entries-after_acts acts (after_sending m.outgoing m) ∙ ap (λ before. before ++ takes_of acts) (sent_entries m.outgoing m)
 entries-after_acts (act.Finish ∷ acts) m = entries-after_acts acts (after_act act.Finish m)
 entries-after_acts (act.Halt ∷ acts) m = entries-after_acts acts (after_act act.Halt m)
 
@@ -140,7 +140,7 @@ nothing_pending own (WithBuffer u v) m e = absurd (cc)
 
 -- who has taken all entries of a legal log and awaits nothing holds its document
 pub held_all : (log : List Row) (own joined : ℕ) (acts : List Act) → IsLegal log → takes_of acts ≡ entries log
-    → outstanding (after_acts acts (machine_from own joined 0 [])).pending ≡ None → held (after_acts acts (machine_from own joined 0 [])) ≡ doc log
+    → outstanding (after_acts acts (machine_from own joined 0 [])).pending ≡ None → held_text (after_acts acts (machine_from own joined 0 [])) ≡ doc log
 held_all log own joined acts legal all none =
     let first : Machine = machine_from own joined 0 [] in
     let last : Machine = after_acts acts first in
@@ -149,10 +149,10 @@ held_all log own joined acts legal all none =
     ∙ ap (doc_told []) (entries-after_acts acts first ∙ all)
     ∙ told_doc log legal
 
--- from any start up to any place
+-- from any start up to any position
 pub held_between : (log : List Row) (own joined b t : ℕ) (acts : List Act) → IsLegal log → b ≤ t → takes_of acts ≡ drop b (take t (entries log))
     → outstanding (after_acts acts (machine_from own joined b (doc (take b log)))).pending ≡ None
-    → held (after_acts acts (machine_from own joined b (doc (take b log)))) ≡ doc (take t log)
+    → held_text (after_acts acts (machine_from own joined b (doc (take b log)))) ≡ doc (take t log)
 held_between log own joined b t acts legal before these none =
     let first : Machine = machine_from own joined b (doc (take b log)) in
     let last : Machine = after_acts acts first in
@@ -169,7 +169,7 @@ counted-one_more n k (d ∷ cs) c e = ap (λ r. (n, d) ∷ r) (counted-one_more 
 
 record Goes (m : Machine) (calls : List Call) (num : ℕ) (c : Call) : Type 0 where
   number_is : num ≡ next_number m
-  sent_is : (send_from calls m).sent ≡ m.sent ++ c ∷ []
+  sent_is : (after_sending calls m).sent ≡ m.sent ++ c ∷ []
 
 goes : (b : Bool) (m : Machine) (calls : List Call) (num : ℕ) (c : Call) → (if b then next.Done else next_open m calls) ≡ next.Send num c → Goes m calls num c
 goes true m calls num c e = absurd (cc)

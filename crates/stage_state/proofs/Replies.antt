@@ -22,13 +22,13 @@ use Rattle.stage_state.specs.declared.reply.AskRefusal.{AskRefusal}
 use Rattle.stage_state.specs.declared.reply.TakeRefusal.{TakeRefusal}
 use Rattle.stage_state.specs.declared.reply.AskRefusal.TheVariants as ask
 use Rattle.stage_state.specs.declared.reply.TakeRefusal.TheVariants as take
-use Rattle.stage_state.specs.Machine.{Machine, taken, held, standing, is_closed, block_held, next_of, IsSend, CanAct}
+use Rattle.stage_state.specs.Machine.{Machine, taken_count, held_text, standing, is_closed, block_held, next_of, IsSend, CanAct}
 use Rattle.stage_state.specs.Causes.{IsTypeCause, IsEvalCause, IsResetCause, IsTakeCause}
 use Rattle.stage_state.specs.declared.reply.ActReply.{ActReply}
 use Rattle.stage_state.specs.declared.reply.ActReply.TheVariants as reply
 use Rattle.troop_entry.specs.declared.block.Block.{Block}
-use Rattle.stage_state.specs.Staged.{Staged, machine, with_act, after_next, IsQuiet}
-use Rattle.stage_state.specs.Replies.{unless, reply_of, played, is_free, spare_left, IsAskReply, IsTakeReply, type_refusal, blank_at, eval_refusal, reset_refusal, is_sent, unfit, entry_refusal, take_refusal, sends, places, ask_error, take_error}
+use Rattle.stage_state.specs.Staged.{Staged, machine, with_act, stage_after_next, IsQuiet}
+use Rattle.stage_state.specs.Replies.{unless, reply_of, stage_after, is_free, spare_left, IsAskReply, IsTakeReply, type_refusal, blank_at, eval_refusal, reset_refusal, is_sent, unfit_refusal, entry_refusal, take_refusal, sends, accepts, ask_error, take_error}
 use Rattle.stage_state.proofs.Machine.{machine-joined}
 use Rattle.stage_state.proofs.Causes.{one_type_cause, one_eval_cause, one_reset_cause, one_take_cause}
 
@@ -42,12 +42,12 @@ differ_from m n e = grind (arith, nat_tests, e)
 
 -- the refusal of a local edit that the function says has its cause
 pub type_caused : (m : Machine) (op : Change) → IsTypeCause m op (ask_error (type_refusal m op))
-type_caused m op = by_tests (is_closed m) (base op == length (held m)) refl refl
+type_caused m op = by_tests (is_closed m) (base op == length (held_text m)) refl refl
   where
-    by_tests : (b c : Bool) → is_closed m ≡ b → (base op == length (held m)) ≡ c → IsTypeCause m op (ask_error (type_refusal m op))
+    by_tests : (b c : Bool) → is_closed m ≡ b → (base op == length (held_text m)) ≡ c → IsTypeCause m op (ask_error (type_refusal m op))
     by_tests true c p q = rw p p
-    by_tests false true p q = rw (p, q) (p, equal_from (base op) (length (held m)) q)
-    by_tests false false p q = rw (p, q) (p, (refl, refl, differ_from (base op) (length (held m)) q))
+    by_tests false true p q = rw (p, q) (p, equal_from (base op) (length (held_text m)) q)
+    by_tests false false p q = rw (p, q) (p, (refl, refl, differ_from (base op) (length (held_text m)) q))
 
 -- the refusal of an evaluation that the function says has its cause
 pub eval_caused : (m : Machine) (place : ℕ) → IsEvalCause m place (ask_error (eval_refusal m place))
@@ -78,34 +78,34 @@ sent_differs None (Some u) e same = cc
 sent_differs (Some op) None e same = cc
 sent_differs (Some op) (Some u) e same = true≢false (sym ((op_decides op u).1 (cc)) ∙ e)
 
-own_caused : (m : Machine) (e : Entry) → m.gone ≡ false → e.at ≡ taken m → is_edit_of m.own e ≡ true → (b : Bool) → is_sent (op_told e.deed) (outstanding m.pending) ≡ b
+own_caused : (m : Machine) (e : Entry) → m.gone ≡ false → e.at ≡ taken_count m → is_edit_of m.own e ≡ true → (b : Bool) → is_sent (op_told e.deed) (outstanding m.pending) ≡ b
     → IsTakeCause m e (take_error (if b then None else Some (take.NotSent e.at)))
 own_caused m e here at own true sent = (here, record { place = at; fits = rw own (sent_same (op_told e.deed) (outstanding m.pending) sent) })
 own_caused m e here at own false sent = (here, (at, refl, own, sent_differs (op_told e.deed) (outstanding m.pending) sent))
 
-other_caused : (m : Machine) (e : Entry) → m.gone ≡ false → e.at ≡ taken m → is_edit_of m.own e ≡ false → (o : Option Change) → op_told e.deed ≡ o
-    → IsTakeCause m e (take_error (unfit o (other_base m.pending (length (held m)))))
+other_caused : (m : Machine) (e : Entry) → m.gone ≡ false → e.at ≡ taken_count m → is_edit_of m.own e ≡ false → (o : Option Change) → op_told e.deed ≡ o
+    → IsTakeCause m e (take_error (unfit_refusal o (other_base m.pending (length (held_text m)))))
 other_caused m e here at other None told = (here, record { place = at; fits = rw (other, told) tt })
-other_caused m e here at other (Some op) told = by_test (base op == other_base m.pending (length (held m))) refl
+other_caused m e here at other (Some op) told = by_test (base op == other_base m.pending (length (held_text m))) refl
   where
-    by_test : (b : Bool) → (base op == other_base m.pending (length (held m))) ≡ b
-        → IsTakeCause m e (take_error (if b then None else Some (take.BadBase (base op) (other_base m.pending (length (held m))))))
-    by_test true same = (here, record { place = at; fits = rw (other, told) (equal_from (base op) (other_base m.pending (length (held m))) same) })
-    by_test false differ = (here, (at, other, ap (option_map base) told, refl, differ_from (base op) (other_base m.pending (length (held m))) differ))
+    by_test : (b : Bool) → (base op == other_base m.pending (length (held_text m))) ≡ b
+        → IsTakeCause m e (take_error (if b then None else Some (take.BadBase (base op) (other_base m.pending (length (held_text m))))))
+    by_test true same = (here, record { place = at; fits = rw (other, told) (equal_from (base op) (other_base m.pending (length (held_text m))) same) })
+    by_test false differ = (here, (at, other, ap (option_map base) told, refl, differ_from (base op) (other_base m.pending (length (held_text m))) differ))
 
-entry_caused : (m : Machine) (e : Entry) → m.gone ≡ false → e.at ≡ taken m → (d : Bool) → is_edit_of m.own e ≡ d → IsTakeCause m e (take_error (entry_refusal d m e))
+entry_caused : (m : Machine) (e : Entry) → m.gone ≡ false → e.at ≡ taken_count m → (d : Bool) → is_edit_of m.own e ≡ d → IsTakeCause m e (take_error (entry_refusal d m e))
 entry_caused m e here at true own = own_caused m e here at own (is_sent (op_told e.deed) (outstanding m.pending)) refl
 entry_caused m e here at false other = other_caused m e here at other (op_told e.deed) refl
 
 -- the refusal of an entry that the function says has its cause
 pub take_caused : (m : Machine) (e : Entry) → IsTakeCause m e (take_error (take_refusal m e))
-take_caused m e = by_tests m.gone (e.at == taken m) refl refl
+take_caused m e = by_tests m.gone (e.at == taken_count m) refl refl
   where
-    by_tests : (b c : Bool) → m.gone ≡ b → (e.at == taken m) ≡ c
-        → IsTakeCause m e (take_error (if b then Some take.Gone else (if c then entry_refusal (is_edit_of m.own e) m e else Some (take.BadPlace (taken m) e.at))))
+    by_tests : (b c : Bool) → m.gone ≡ b → (e.at == taken_count m) ≡ c
+        → IsTakeCause m e (take_error (if b then Some take.Gone else (if c then entry_refusal (is_edit_of m.own e) m e else Some (take.BadPlace (taken_count m) e.at))))
     by_tests true c p q = p
-    by_tests false true p q = entry_caused m e p (equal_from e.at (taken m) q) (is_edit_of m.own e) refl
-    by_tests false false p q = (p, (refl, refl, λ same. differ_from e.at (taken m) q (sym same)))
+    by_tests false true p q = entry_caused m e p (equal_from e.at (taken_count m) q) (is_edit_of m.own e) refl
+    by_tests false false p q = (p, (refl, refl, λ same. differ_from e.at (taken_count m) q (sym same)))
 
 -- so a cause is that of the error which the function says
 pub type_cause_is : (m : Machine) (op : Change) (a : StageError) → IsTypeCause m op a → a ≡ ask_error (type_refusal m op)
@@ -157,7 +157,7 @@ not_true true e = absurd (cc)
 not_true false e = refl
 
 -- an act that the function places can be placed
-pub placed_can : (m : Machine) (a : Act) → places m a ≡ true → CanAct m a
+pub placed_can : (m : Machine) (a : Act) → accepts m a ≡ true → CanAct m a
 placed_can m (act.Typed op) e = rw (none_is (type_refusal m op) e) at (type_caused m op)
 placed_can m (act.Eval place) e = rw (none_is (eval_refusal m place) e) at (eval_caused m place)
 placed_can m (act.Reset text) e = rw (none_is (reset_refusal m) e) at (reset_caused m text)
@@ -167,7 +167,7 @@ placed_can m act.Finish e = not_true m.finishing e
 placed_can m act.Halt e = not_true m.halted e
 
 -- an act that can be placed is placed by the function
-pub can_placed : (m : Machine) (a : Act) → CanAct m a → places m a ≡ true
+pub can_placed : (m : Machine) (a : Act) → CanAct m a → accepts m a ≡ true
 can_placed m (act.Typed op) can = ap is_none (no_ask_error (type_refusal m op) (sym (type_cause_is m op fault.Memory can)))
 can_placed m (act.Eval place) can = ap is_none (no_ask_error (eval_refusal m place) (sym (eval_cause_is m place fault.Memory can)))
 can_placed m (act.Reset text) can = ap is_none (no_ask_error (reset_refusal m) (sym (reset_cause_is m text fault.Memory can)))
@@ -178,7 +178,7 @@ can_placed m act.Halt can = ap not can
 
 -- memory is wanted for an entry only where it would be placed
 pub take_wanting : (m : Machine) (e : Entry) (given : Result (Option Block) TakeError) → IfErr given (IsTakeCause m e) → given ≡ Err error.Memory
-    → places m (act.Take e) ≡ true
+    → accepts m (act.Take e) ≡ true
 take_wanting m e given cause is =
     can_placed m (act.Take e) (subst (λ (r : Result (Option Block) TakeError). IfErr r (IsTakeCause m e)) is cause)
 
@@ -192,21 +192,21 @@ on_err (Err e) p = p
 -- a play that gave this: its answer, and the stage then
 pub record Plays (seat : ℕ) (a : Act) (old new : Staged) (answer : ActReply) : Type 0 where
   pub reply : answer ≡ reply_of (machine old) a
-  pub acts : new ≡ played seat a old
+  pub acts : new ≡ stage_after seat a old
 
-placed_played : (seat : ℕ) (a : Act) (old new : Staged) → places (machine old) a ≡ true → new ≡ with_act seat a old → new ≡ played seat a old
+placed_played : (seat : ℕ) (a : Act) (old new : Staged) → accepts (machine old) a ≡ true → new ≡ with_act seat a old → new ≡ stage_after seat a old
 placed_played seat a old new is e = e ∙ sym (ap (λ (b : Bool). if b then with_act seat a old else old) is)
 
-kept_played : (seat : ℕ) (a : Act) (old new : Staged) → places (machine old) a ≡ false → new ≡ old → new ≡ played seat a old
+kept_played : (seat : ℕ) (a : Act) (old new : Staged) → accepts (machine old) a ≡ false → new ≡ old → new ≡ stage_after seat a old
 kept_played seat a old new is e = e ∙ sym (ap (λ (b : Bool). if b then with_act seat a old else old) is)
 
 -- an ask: by its refusal as a function, what its call gave, and its answer
 ask_plays : (seat : ℕ) (a : Act) (old new : Staged) (f : Result (Unit {0}) AskRefusal → ActReply) (o : Option AskRefusal) (given : Result (Unit {0}) StageError) (r : Result (Unit {0}) AskRefusal)
-    → reply_of (machine old) a ≡ f (unless o tt) → places (machine old) a ≡ is_none o
+    → reply_of (machine old) a ≡ f (unless o tt) → accepts (machine old) a ≡ is_none o
     → OnOk given (new ≡ with_act seat a old) → OnOk given (CanAct (machine old) a) → OnErr given (new ≡ old) → IfErr given (λ e. e ≡ ask_error o) → IsAskReply given r
     → Plays seat a old new (f r)
 ask_plays seat a old new f o (Ok done) r is_reply is_placed ok can err cause h =
-    let yes : places (machine old) a ≡ true = can_placed (machine old) a can in
+    let yes : accepts (machine old) a ≡ true = can_placed (machine old) a can in
     let none : o ≡ None = none_is o (sym is_placed ∙ yes) in
     record { reply = ap f h ∙ sym (is_reply ∙ ap (λ x. f (unless x tt)) none); acts = placed_played seat a old new yes ok }
 ask_plays seat a old new f None (Err fault.Closed) r is_reply is_placed ok can err cause h = absurd (cc)
@@ -260,7 +260,7 @@ entry_plays : (seat : ℕ) (e : Entry) (old new : Staged) (o : Option TakeRefusa
     → OnOk given (new ≡ with_act seat (act.Take e) old) → OnOk given (CanAct (machine old) (act.Take e)) → OnErr given (new ≡ old) → IfErr given (λ x. x ≡ take_error o) → IsTakeReply given r
     → Plays seat (act.Take e) old new (reply.Take r)
 entry_plays seat e old new o (Ok b) r is_o block ok can err cause h =
-    let yes : places (machine old) (act.Take e) ≡ true = can_placed (machine old) (act.Take e) can in
+    let yes : accepts (machine old) (act.Take e) ≡ true = can_placed (machine old) (act.Take e) can in
     let none : take_refusal (machine old) e ≡ None = none_is (take_refusal (machine old) e) yes in
     record {
       reply = ap reply.Take (h ∙ ap Ok block) ∙ sym (ap (λ x. reply.Take (unless x (block_told (machine old).joined e))) none);
@@ -309,10 +309,10 @@ take_plays seat e old new given r block ok can err cause h =
     (if_err_caused given _ _ (take_cause_is (machine old) e) cause) h
 
 -- the call of `next` plays its act
-pub next_plays : (seat : ℕ) (old new : Staged) (n : Next) → n ≡ next_of (machine old) → new ≡ after_next seat n old → Plays seat act.Next old new (reply.Next n)
+pub next_plays : (seat : ℕ) (old new : Staged) (n : Next) → n ≡ next_of (machine old) → new ≡ stage_after_next seat n old → Plays seat act.Next old new (reply.Next n)
 next_plays seat old new n is e = record { reply = ap reply.Next is; acts = e ∙ by_next n is }
   where
-    by_next : (n : Next) → n ≡ next_of (machine old) → after_next seat n old ≡ played seat act.Next old
+    by_next : (n : Next) → n ≡ next_of (machine old) → stage_after_next seat n old ≡ stage_after seat act.Next old
     by_next (next.Send num c) is = sym (ap (λ (x : Next). if sends x then with_act seat act.Next old else old) (sym is))
     by_next next.NotYet is = sym (ap (λ (x : Next). if sends x then with_act seat act.Next old else old) (sym is))
     by_next next.Done is = sym (ap (λ (x : Next). if sends x then with_act seat act.Next old else old) (sym is))
@@ -335,11 +335,11 @@ left_within false o n more = more
 
 -- room that didn't shrink is enough
 pub kept_spare : (a : Act) (m : Machine) (o n : ℕ) → o ≤ n → spare_left a m o ≤ n
-kept_spare a m o n more = left_within (places m a && not (is_free a)) o n more
+kept_spare a m o n more = left_within (accepts m a && not (is_free a)) o n more
 
 placed_spare : (a : Act) (m : Machine) (o n : ℕ) → is_free a ≡ false → CanAct m a → n ≡ o - 1 → spare_left a m o ≤ n
 placed_spare a m o n paid can used =
-    let yes : (places m a && not (is_free a)) ≡ true = ap (λ b. b && not (is_free a)) (can_placed m a can) ∙ ap not paid in
+    let yes : (accepts m a && not (is_free a)) ≡ true = ap (λ b. b && not (is_free a)) (can_placed m a can) ∙ ap not paid in
     subst (λ (b : Bool). (if b then o - 1 else o) ≤ n) (sym yes) (omega (arith, used))
 
 -- a call uses up no more room than its act

@@ -20,7 +20,7 @@ use Rattle.stage_state.specs.declared.errors.StageError.{StageError}
 use Rattle.stage_state.specs.declared.errors.StageError.TheVariants as fault
 use Rattle.stage_state.specs.declared.errors.TakeError.{TakeError}
 use Rattle.stage_state.specs.declared.errors.TakeError.TheVariants as error
-use Rattle.stage_state.specs.Machine.{Machine, taken, held, is_closed, block_held, next_of}
+use Rattle.stage_state.specs.Machine.{Machine, taken_count, held_text, is_closed, block_held, next_of}
 use Rattle.stage_state.specs.Staged.{Staged, machine, with_act}
 
 -- ---- why an act is refused, if it is
@@ -29,7 +29,7 @@ use Rattle.stage_state.specs.Staged.{Staged, machine, with_act}
 abbrev pub type_refusal : Machine → Change → Option AskRefusal
 type_refusal m op =
     if is_closed m then Some ask.Closed
-    else (if base op == length (held m) then None else Some (ask.BadBase (base op) (length (held m))))
+    else (if base op == length (held_text m) then None else Some (ask.BadBase (base op) (length (held_text m))))
 
 -- the refusal at this place, if there is no block
 abbrev pub blank_at : ℕ → Option (List ℕ) → Option AskRefusal
@@ -52,20 +52,20 @@ is_sent (Some op) None = false
 is_sent (Some op) (Some u) = same_op op u
 
 -- the refusal of an operation that doesn't fit n characters
-abbrev pub unfit : Option Change → ℕ → Option TakeRefusal
-unfit None n = None
-unfit (Some op) n = if base op == n then None else Some (take.BadBase (base op) n)
+abbrev pub unfit_refusal : Option Change → ℕ → Option TakeRefusal
+unfit_refusal None n = None
+unfit_refusal (Some op) n = if base op == n then None else Some (take.BadBase (base op) n)
 
--- the refusal of an entry at its place, by whether it is an edit by the stage's own performer
+-- the refusal of an entry at its position, by whether it is an edit by the stage's own performer
 abbrev pub entry_refusal : Bool → Machine → Entry → Option TakeRefusal
 entry_refusal true m e = if is_sent (op_told e.deed) (outstanding m.pending) then None else Some (take.NotSent e.at)
-entry_refusal false m e = unfit (op_told e.deed) (other_base m.pending (length (held m)))
+entry_refusal false m e = unfit_refusal (op_told e.deed) (other_base m.pending (length (held_text m)))
 
--- the refusal of an entry: the performer is gone, the entry is at another place, or doesn't fit
+-- the refusal of an entry: the performer is gone, the entry is at another position, or doesn't fit
 abbrev pub take_refusal : Machine → Entry → Option TakeRefusal
 take_refusal m e =
     if m.gone then Some take.Gone
-    else (if e.at == taken m then entry_refusal (is_edit_of m.own e) m e else Some (take.BadPlace (taken m) e.at))
+    else (if e.at == taken_count m then entry_refusal (is_edit_of m.own e) m e else Some (take.BadPlace (taken_count m) e.at))
 
 -- ---- the answer
 
@@ -91,18 +91,18 @@ sends next.NotYet = false
 sends next.Done = false
 
 -- whether the act is placed
-abbrev pub places : Machine → Act → Bool
-places m (act.Typed op) = is_none (type_refusal m op)
-places m (act.Eval place) = is_none (eval_refusal m place)
-places m (act.Reset text) = is_none (reset_refusal m)
-places m (act.Take e) = is_none (take_refusal m e)
-places m act.Next = sends (next_of m)
-places m act.Finish = not m.finishing
-places m act.Halt = not m.halted
+abbrev pub accepts : Machine → Act → Bool
+accepts m (act.Typed op) = is_none (type_refusal m op)
+accepts m (act.Eval place) = is_none (eval_refusal m place)
+accepts m (act.Reset text) = is_none (reset_refusal m)
+accepts m (act.Take e) = is_none (take_refusal m e)
+accepts m act.Next = sends (next_of m)
+accepts m act.Finish = not m.finishing
+accepts m act.Halt = not m.halted
 
 -- the stage after an act: a placed one joins its acts
-abbrev pub played : ℕ → Act → Staged → Staged
-played seat a s = if places (machine s) a then with_act seat a s else s
+abbrev pub stage_after : ℕ → Act → Staged → Staged
+stage_after seat a s = if accepts (machine s) a then with_act seat a s else s
 
 -- ---- the error that a refusal is, and want of memory where there is none
 
@@ -133,7 +133,7 @@ is_free act.Halt = true
 
 -- the room that a play leaves, at least: it uses up that for one act only where it places an act that may take memory
 abbrev pub spare_left : Act → Machine → ℕ → ℕ
-spare_left a m spare = if places m a && not (is_free a) then spare - 1 else spare
+spare_left a m spare = if accepts m a && not (is_free a) then spare - 1 else spare
 
 -- the answer to an ask whose call gave this, where it gave no want of memory
 abbrev pub IsAskReply : Result (Unit {0}) StageError → Result (Unit {0}) AskRefusal → Type 0

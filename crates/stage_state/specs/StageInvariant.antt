@@ -3,7 +3,7 @@ use Rattle.std.specs.Prelude.{◌≡◌, ℕ, ◌≤◌, ◌+◌, ◌^◌, Bool,
 use Rattle.troop_entry.specs.declared.call.Call.{Call}
 use Rattle.client_state.specs.Standing.{Standing, StandsOn}
 use Rattle.stage_state.specs.declared.act.Next.{Next}
-use Rattle.stage_state.specs.Machine.{Machine, taken, document, IsSend}
+use Rattle.stage_state.specs.Machine.{Machine, taken_count, document, IsSend}
 use Rattle.stage_state.specs.Staged.{Staged, machine, IsStagePlayed, IsQuiet, last_acts}
 
 -- where the acts have led, as far as it is kept: the client, the calls that are to go out, the marks, and how many calls went out
@@ -32,7 +32,7 @@ kept_from client = record {
 pub record Keeps (k : KeptValue) (m : Machine) : Type 0 where
   pub own : k.client.own ≡ m.own
   pub state : k.client.state ≡ m.pending
-  pub taken_is : k.client.taken ≡ taken m
+  pub taken_is : k.client.taken ≡ taken_count m
   pub stands : StandsOn k.client (document m)
   pub outgoing_is : k.outgoing ≡ m.outgoing
   pub finishing_is : k.finishing ≡ m.finishing
@@ -52,7 +52,7 @@ abbrev pub IsUnsent : Option Next → Next → Type 0
 IsUnsent None next = IsSend next
 IsUnsent (Some answer) next = (answer ≡ next) × IsQuiet answer
 
--- each act was placed, what is kept is where they have led, there is room for the last acts, and the place of the start leaves
+-- each act was placed, what is kept is where they have led, there is room for the last acts, and the position of the start leaves
 -- room for counts
 pub record IsStage (s : Staged) (k : KeptValue) (room : ℕ) : Type 0 where
   pub played : IsStagePlayed s

@@ -2,7 +2,7 @@
 ghost use Rattle.std.specs.Prelude.{◌≡◌, ◌-◌, ◌^◌, ◌<◌, ◌∷◌, ◌++◌, [], ◌||◌, true, false, IfOk, OnOk, OnErr};
 ghost use Rattle.std.specs.VecDeque.{deque_len, deque_capacity};
 ghost use Rattle.client_state.specs.Causes.{CanEdit, CanTake};
-ghost use Rattle.stage_state.specs.Machine.{Machine, ask, type_op, edit_asked, take_entry, send_next, next_of, IsSend};
+ghost use Rattle.stage_state.specs.Machine.{Machine, after_asking, after_typing, edit_asked, after_entry_taken, after_next_sent, next_of, IsSend};
 ghost use Rattle.stage_state.specs.Staged.{last_acts};
 ghost use Rattle.stage_state.specs.StageInvariant.{kept_from, Keeps, KeepsMarks, IsUnsent};
 
@@ -116,7 +116,7 @@ impl Kept {
 
     // The call is to go out behind the others.
     pub(crate) fn ask(&mut self, call: Call) -> Result<(), AllocError>
-        ensures keeps { OnOk result ((m : Machine) → Keeps self.old m → Keeps self.new (ask (call ∷ []) m)) }
+        ensures keeps { OnOk result ((m : Machine) → Keeps self.old m → Keeps self.new (after_asking (call ∷ []) m)) }
         ensures marks { OnOk result (KeepsMarks self.old self.new) }
         ensures err { OnErr result (self.new ≡ self.old) }
     {
@@ -128,7 +128,7 @@ impl Kept {
     // Makes a local edit that fits.
     pub(crate) fn type_op(&mut self, op: &Op) -> Result<(), AllocError>
         requires { CanEdit self.old.client op.now }
-        ensures keeps { OnOk result ((m : Machine) → Keeps self.old m → Keeps self.new (type_op op.now m)) }
+        ensures keeps { OnOk result ((m : Machine) → Keeps self.old m → Keeps self.new (after_typing op.now m)) }
         ensures marks { OnOk result (KeepsMarks self.old self.new) }
         ensures err { OnErr result (self.new ≡ self.old) }
     {
@@ -144,7 +144,7 @@ impl Kept {
         requires fits { CanTake self.old.client entry.now }
         requires stays { self.old.gone ≡ false }
         requires count { self.old.client.taken < 2 ^ 64 - 1 }
-        ensures keeps { OnOk result ((m : Machine) → Keeps self.old m → Keeps self.new (take_entry entry.now m)) }
+        ensures keeps { OnOk result ((m : Machine) → Keeps self.old m → Keeps self.new (after_entry_taken entry.now m)) }
         ensures marks { OnOk result (KeepsMarks self.old self.new) }
         ensures err { OnErr result (self.new ≡ self.old) }
     {
@@ -196,7 +196,7 @@ impl Kept {
     pub(crate) fn send(&mut self) -> Next
         requires { self.old.sent < 2 ^ 64 - 1 }
         ensures answer { (m : Machine) → Keeps self.old m → IsSend (next_of m) → result ≡ next_of m }
-        ensures keeps { (m : Machine) → Keeps self.old m → Keeps self.new (send_next m) }
+        ensures keeps { (m : Machine) → Keeps self.old m → Keeps self.new (after_next_sent m) }
         ensures marks { KeepsMarks self.old self.new }
     {
         let num = self.sent + 1;

@@ -1,7 +1,7 @@
 //! A text and its marks.
 ghost use Rattle.std.specs.Prelude.{◌≡◌, ◌≤◌, ◌<◌, ◌^◌, ◌↔◌, [], IsTrue, IsOk, IsSome, IfOk, OnOk, OnErr, length, map};
 ghost use Rattle.ot_text.specs.Change.{base, effect};
-ghost use Rattle.ot_text.specs.Marked.{marked, text_of, marks_of, runs_of};
+ghost use Rattle.ot_text.specs.Marked.{char_by, text_of, marks_of, runs_of};
 ghost use Rattle.ot_text.specs.Ready.{IsReady, IsAsLarge};
 ghost use Rattle.author_marks.specs.Runs.{run_of};
 ghost use Rattle.troop_doc.specs.Blocks.{block_round};
@@ -87,7 +87,7 @@ impl Doc {
     pub fn apply(&mut self, op: &Op, who: u32)
         requires base { base op.now ≡ length self.old.pairs }
         requires ready { IsReady op.now self.old.ready }
-        ensures { self.new.pairs ≡ effect (marked who) op.now self.old.pairs }
+        ensures { self.new.pairs ≡ effect (char_by who) op.now self.old.pairs }
     {
         self.chars.apply(op);
         self.marks.apply(op, who);

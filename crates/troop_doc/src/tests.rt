@@ -1,7 +1,7 @@
 //! Small documents.
 ghost use Rattle.std.specs.Prelude.{◌≡◌, OnOk};
 ghost use Rattle.ot_text.specs.Change.{effect};
-ghost use Rattle.ot_text.specs.Marked.{marked};
+ghost use Rattle.ot_text.specs.Marked.{char_by};
 
 use crate::{Doc, block_law, lines_law};
 use author_marks::Run;
@@ -28,7 +28,7 @@ fn op(alloc: Global, kept: u64, string: &str, cut: u64) -> Result<Op, AllocError
 
 // Makes room and applies; want of memory, too, if the operation has another base.
 fn edit(doc: &mut Doc, op: &Op, who: u32) -> Result<(), AllocError>
-    ensures { OnOk result (doc.new.pairs ≡ effect (marked who) op.now doc.old.pairs) }
+    ensures { OnOk result (doc.new.pairs ≡ effect (char_by who) op.now doc.old.pairs) }
 {
     if op.base() != doc.len() {
         return Err(AllocError);

@@ -38,7 +38,7 @@ is_edit_of who e = tells_edit e.deed && (e.who == who)
 abbrev pub is_leave_of : ℕ → Entry → Bool
 is_leave_of who e = tells_leave e.deed && (e.who == who)
 
--- the block that a deed at this place is for a performer with this place of joining: an evaluation behind the join is one
+-- the block that a deed at this position is for a performer with this position of joining: an evaluation behind the join is one
 abbrev pub block_of_deed : ℕ → ℕ → Deed → Option Block
 block_of_deed joined at (deed.Join name lang) = None
 block_of_deed joined at deed.Leave = None
@@ -46,6 +46,6 @@ block_of_deed joined at (deed.Edit op) = None
 block_of_deed joined at (deed.Eval text) = if nat_lt joined at then Some (record { place = at; text = text }) else None
 block_of_deed joined at (deed.Reset op) = None
 
--- the block that an entry is for a performer who joined at this place
+-- the block that an entry is for a performer who joined at this position
 abbrev pub block_told : ℕ → Entry → Option Block
 block_told joined e = block_of_deed joined e.at e.deed

@@ -14,13 +14,13 @@ use Rattle.troop_main.specs.Outcome.{code_of, error_line}
 use Rattle.troop_main.specs.Laws.{TooMuchExactly, UnbuiltExactly}
 
 -- as many bytes were taken as are missing
-same_length : (bytes taken left : List ℕ) → Some (taken ++ left) ≡ in_front bytes (Some left) → length taken ≡ length bytes
-same_length bytes taken left given =
-    let same : length (taken ++ left) ≡ length (bytes ++ left) = ap (λ o. length (unwrap_or o left)) given in
-    omega (arith, same, length-append taken left, length-append bytes left)
+same_length : (bytes taken remaining : List ℕ) → Some (taken ++ remaining) ≡ in_front bytes (Some remaining) → length taken ≡ length bytes
+same_length bytes taken remaining given =
+    let same : length (taken ++ remaining) ≡ length (bytes ++ remaining) = ap (λ o. length (unwrap_or o remaining)) given in
+    omega (arith, same, length-append taken remaining, length-append bytes remaining)
 
-taken_length : (bytes taken left : List ℕ) (input : Port) → Gave input bytes → input.before ≡ Some (taken ++ left) → input.after ≡ Some left → length taken ≡ length bytes
-taken_length bytes taken left input given before after = same_length bytes taken left (sym before ∙ given ∙ ap (in_front bytes) after)
+taken_length : (bytes taken remaining : List ℕ) (input : Port) → Gave input bytes → input.before ≡ Some (taken ++ remaining) → input.after ≡ Some remaining → length taken ≡ length bytes
+taken_length bytes taken remaining input given before after = same_length bytes taken remaining (sym before ∙ given ∙ ap (in_front bytes) after)
 
 too_much : (end : Outcome) (code : ℕ) (bytes taken : List ℕ) (input out : Port) → code ≡ code_of end → Says end bytes input out
     → length taken ≡ length bytes → code ≢ 3 → (code ≡ 10) ↔ (most_input < length taken)
@@ -34,14 +34,14 @@ too_much (outcome.Unbuilt n) code bytes taken input out is says same found = (λ
 
 -- status 10 is exact
 pub too_much_is_exact : TooMuchExactly
-too_much_is_exact code input out err run taken left before after found =
-    too_much run.outcome code run.bytes taken input out run.code_is run.says (taken_length run.bytes taken left input run.given before after) found
+too_much_is_exact code input out err run taken remaining before after found =
+    too_much run.outcome code run.bytes taken input out run.code_is run.says (taken_length run.bytes taken remaining input run.given before after) found
 
 -- at its end the input has given all
-whole : (bytes all : List ℕ) (after : Option (List ℕ)) → Some all ≡ in_front bytes after → IfSome after (λ left. left ≡ []) → all ≡ bytes
+whole : (bytes all : List ℕ) (after : Option (List ℕ)) → Some all ≡ in_front bytes after → IfSome after (λ remaining. remaining ≡ []) → all ≡ bytes
 whole bytes all None given ended = absurd (cc)
-whole bytes all (Some left) given ended =
-    let same : all ≡ bytes ++ left = ap (λ o. unwrap_or o all) given in same ∙ ap (λ l. bytes ++ l) ended ∙ append-nil bytes
+whole bytes all (Some remaining) given ended =
+    let same : all ≡ bytes ++ remaining = ap (λ o. unwrap_or o all) given in same ∙ ap (λ l. bytes ++ l) ended ∙ append-nil bytes
 
 none_is_some : (bytes : List ℕ) (n : ℕ) → first_unbuilt 1 (lines bytes) ≡ None → first_unbuilt 1 (lines bytes) ≡ Some n → ⊥
 none_is_some bytes n none some = let same : None ≡ Some n = sym none ∙ some in cc
@@ -52,8 +52,8 @@ same_number bytes m n is_m is_n = let same : Some m ≡ Some n = sym is_m ∙ is
 -- no more bytes were given than there were
 few : (bytes all : List ℕ) (after : Option (List ℕ)) → Some all ≡ in_front bytes after → length bytes ≤ length all
 few bytes all None given = absurd (cc)
-few bytes all (Some left) given =
-    let same : length all ≡ length (bytes ++ left) = ap (λ o. length (unwrap_or o all)) given in omega (arith, same, length-append bytes left)
+few bytes all (Some remaining) given =
+    let same : length all ≡ length (bytes ++ remaining) = ap (λ o. length (unwrap_or o all)) given in omega (arith, same, length-append bytes remaining)
 
 unbuilt : (end : Outcome) (code : ℕ) (bytes all : List ℕ) (input out err : Port) → code ≡ code_of end → Says end bytes input out
     → Some all ≡ in_front bytes input.after → Reported err (error_line end) → (IsFaulted input → ⊥) → code ≢ 3

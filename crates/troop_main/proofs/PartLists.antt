@@ -9,19 +9,19 @@ use Rattle.serde_json.specs.View.{view, items_view}
 use Rattle.serde_json.specs.declared.value.Value.{Value}
 use Rattle.ot_text.specs.Change.{Change, base, then, nothing}
 use Rattle.ot_text.specs.declared.part.Part.{Part}
-use Rattle.ot_text.specs.Parts.{passed_by, base_of, part_then, norm}
+use Rattle.ot_text.specs.Parts.{part_base, base_of, part_then, norm}
 use Rattle.ot_text.proofs.Sums.{base-norm}
 use Rattle.ot_text.proofs.Then.{norm-append}
 use Rattle.troop_main.specs.Values.{most_count, elements}
 use Rattle.troop_main.specs.Operations.{part_of, parts_of_list, op_of_parts, op_of_list}
 
 base_of-append : (ps qs : List Part) → base_of (ps ++ qs) ≡ base_of ps + base_of qs
-base_of-append ps qs = sum_by-append passed_by ps qs
+base_of-append ps qs = sum_by-append part_base ps qs
 
-base_of-one : (part : Part) → base_of (part ∷ []) ≡ passed_by part
+base_of-one : (part : Part) → base_of (part ∷ []) ≡ part_base part
 base_of-one part = omega arith
 
-base_of-one_more : (ps : List Part) (part : Part) → base_of (ps ++ part ∷ []) ≡ base_of ps + passed_by part
+base_of-one_more : (ps : List Part) (part : Part) → base_of (ps ++ part ∷ []) ≡ base_of ps + part_base part
 base_of-one_more ps part = base_of-append ps (part ∷ []) ∙ ap (λ n. base_of ps + n) (base_of-one part)
 
 abbrev pub behind : List Part → Option (List Part) → Option (List Part)
@@ -44,9 +44,9 @@ parts_more all rest d ds done part parts split is_part =
 
 -- the next one is a part
 pub next : (all rest : List Data) (d : Data) (ds : List Data) (built built' : Change) (part : Part) → IsReadSoFar all rest built → rest ≡ d ∷ ds → part_of d ≡ Some part
-    → true ≡ nat_le (base built + passed_by part) most_count → built' ≡ then built (part_then part nothing) → IsReadSoFar all ds built'
+    → true ≡ nat_le (base built + part_base part) most_count → built' ≡ then built (part_then part nothing) → IsReadSoFar all ds built'
 next all rest d ds built built' part r split is_part fits is_next =
-    let fit : base built + passed_by part ≤ most_count = grind (arith, nat_tests) in
+    let fit : base built + part_base part ≤ most_count = grind (arith, nat_tests) in
     record {
       done = r.done ++ part ∷ [];
       is = is_next ∙ ap (λ b. then b (part_then part nothing)) r.is ∙ sym (norm-append r.done (part ∷ []));
@@ -63,9 +63,9 @@ over_option done (Some ps) long = over (done ++ ps) (omega (arith, base_of-appen
 
 -- the numbers grow too large
 pub too_large : (all rest : List Data) (d : Data) (ds : List Data) (built : Change) (part : Part) → IsReadSoFar all rest built → rest ≡ d ∷ ds → part_of d ≡ Some part
-    → false ≡ nat_le (base built + passed_by part) most_count → None ≡ op_of_list all
+    → false ≡ nat_le (base built + part_base part) most_count → None ≡ op_of_list all
 too_large all rest d ds built part r split is_part no_fit =
-    let long : most_count < base built + passed_by part = grind (arith, nat_tests) in
+    let long : most_count < base built + part_base part = grind (arith, nat_tests) in
     sym (ap (λ p. option_and_then op_of_parts p) (parts_more all rest d ds r.done part r.parts split is_part)
     ∙ over_option (r.done ++ part ∷ []) (parts_of_list ds) (omega (arith, long, base_of-one_more r.done part, ap base r.is ∙ base-norm r.done)))
 

@@ -17,8 +17,8 @@ abbrev pub is_space : ℕ → Bool
 is_space b = (b == 32) || (b == 9) || (b == 10) || (b == 13)
 
 -- white space alone
-abbrev pub is_blank : List ℕ → Bool
-is_blank line = list_all is_space line
+abbrev pub is_blank_line : List ℕ → Bool
+is_blank_line line = list_all is_space line
 
 -- the JSON value of a line in UTF-8, if it is one
 unfoldable pub value_of : List ℕ → Option Data
@@ -59,4 +59,4 @@ meaning_of_step None = meaning.Unbuilt
 
 -- what a line means
 abbrev pub meaning_of : List ℕ → Meaning
-meaning_of line = if is_blank line then meaning.Blank else meaning_of_step (step_of line)
+meaning_of line = if is_blank_line line then meaning.Blank else meaning_of_step (step_of line)

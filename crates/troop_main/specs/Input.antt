@@ -12,7 +12,7 @@ most_input = 1048576
 -- the bytes that were taken, and what is known of the end and of the count of faults
 abbrev pub ReadsInput : Input → Option (List ℕ) → Option (List ℕ) → ℕ → ℕ → Type 0
 ReadsInput (input.Whole bytes) old new before now =
-    (old ≡ in_front bytes.items new) × IfSome new (λ left. left ≡ []) × (length bytes.items ≤ most_input) × (now ≡ before)
+    (old ≡ in_front bytes.items new) × IfSome new (λ remaining. remaining ≡ []) × (length bytes.items ≤ most_input) × (now ≡ before)
 ReadsInput input.TooMuch old new before now =
     (bytes : List ℕ) × (old ≡ in_front bytes new) × (most_input < length bytes) × (now ≡ before)
 ReadsInput input.Failed old new before now =

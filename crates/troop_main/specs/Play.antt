@@ -3,7 +3,7 @@ use Rattle.std.specs.Prelude.{◌≡◌, ℕ, ◌+◌, List, [], ◌∷◌, ◌+
 use Rattle.troop_entry.specs.declared.call.Call.TheVariants as call
 use Rattle.troop_entry.specs.declared.row.Row.{Row}
 use Rattle.log_model.specs.Log.{doc}
-use Rattle.log_model.specs.Answers.{answer, after}
+use Rattle.log_model.specs.Answers.{answer, log_after}
 use Rattle.troop_main.specs.declared.grammar.Step.{Step}
 use Rattle.troop_main.specs.declared.grammar.Step.TheVariants as step
 use Rattle.troop_main.specs.declared.grammar.Meaning.{Meaning}
@@ -13,8 +13,8 @@ use Rattle.troop_main.specs.Print.{reply_line, server_line}
 
 -- the log after a step; the calls of a script come through seat 0
 abbrev pub after_step : List Row → Step → List Row
-after_step log (step.Guest name lang) = after log 0 0 0 (call.Join name lang)
-after_step log (step.Call who num c) = after log 0 who num c
+after_step log (step.Guest name lang) = log_after log 0 0 0 (call.Join name lang)
+after_step log (step.Call who num c) = log_after log 0 who num c
 
 -- what a step prints
 abbrev pub shown_step : List Row → Step → List ℕ

@@ -10,8 +10,8 @@ use Rattle.troop_entry.specs.declared.reply.Reply.{Reply}
 use Rattle.troop_entry.specs.declared.reply.Reply.TheVariants as reply
 
 -- a value's compact text, and a line feed
-unfoldable pub line_of : Data → List ℕ
-line_of d = compact_text d ++ 10 ∷ []
+unfoldable pub printed_line : Data → List ℕ
+printed_line d = compact_text d ++ 10 ∷ []
 
 -- a run as a pair: the performer's number, and how many characters
 abbrev pub run_data : Run → Data
@@ -32,7 +32,7 @@ server_data entries m = document_data entries (runs_data m) (encode_utf8_all (te
 
 -- that value as a line
 abbrev pub server_line : ℕ → Marked → List ℕ
-server_line entries m = line_of (server_data entries m)
+server_line entries m = printed_line (server_data entries m)
 
 -- the call stands at this position since an earlier time, and is this performer's
 abbrev pub kept_data : ℕ → ℕ → Data
@@ -61,9 +61,9 @@ crowded_data joins = object (member (codes "joins") (number (unsigned joins)) (m
 -- what a step prints for a reply: nothing where the call was placed
 abbrev pub reply_line : Reply → List ℕ
 reply_line (reply.Placed at who) = []
-reply_line (reply.Kept at who) = line_of (kept_data at who)
-reply_line (reply.Clash num at) = line_of (clash_data num at)
-reply_line (reply.NotMember who) = line_of (member_data who)
-reply_line (reply.Ahead seen n) = line_of (ahead_data seen n)
-reply_line (reply.BadBase want got) = line_of (base_data want got)
-reply_line (reply.Crowded joins) = line_of (crowded_data joins)
+reply_line (reply.Kept at who) = printed_line (kept_data at who)
+reply_line (reply.Clash num at) = printed_line (clash_data num at)
+reply_line (reply.NotMember who) = printed_line (member_data who)
+reply_line (reply.Ahead seen n) = printed_line (ahead_data seen n)
+reply_line (reply.BadBase want got) = printed_line (base_data want got)
+reply_line (reply.Crowded joins) = printed_line (crowded_data joins)

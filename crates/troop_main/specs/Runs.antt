@@ -39,7 +39,7 @@ pub record Replays (code : ℕ) (input out err : Port) : Type 0 where
 
 -- but for 3, the status is 10 exactly where more bytes were taken than an input may have
 abbrev pub IsTooMuchExactly : ℕ → Port → Type 0
-IsTooMuchExactly code input = (taken left : List ℕ) → input.before ≡ Some (taken ++ left) → input.after ≡ Some left → code ≢ 3 → (code ≡ 10) ↔ (most_input < length taken)
+IsTooMuchExactly code input = (taken remaining : List ℕ) → input.before ≡ Some (taken ++ remaining) → input.after ≡ Some remaining → code ≢ 3 → (code ≡ 10) ↔ (most_input < length taken)
 
 -- but for 3 and for a fault of the input, the status is 12 exactly where a line isn't built, and the number that is reported is that of the first one
 abbrev pub IsUnbuiltExactly : ℕ → Port → Port → Type 0

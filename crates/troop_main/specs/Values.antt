@@ -30,8 +30,8 @@ abbrev pub who_of : Data → Option ℕ
 who_of d = option_and_then (at_most most_who) (whole_of d)
 
 -- a string, by its characters
-abbrev pub text_of : Data → Option (List ℕ)
-text_of d = option_map chars (as_str d)
+abbrev pub text_value : Data → Option (List ℕ)
+text_value d = option_map chars (as_str d)
 
 -- a string of 1 to 32 characters
 abbrev pub name_of : Data → Option (List ℕ)

@@ -1,7 +1,7 @@
 //! The steps of a script, read from its lines.
 ghost use Rattle.std.specs.Prelude.{◌≡◌, IfOk, map, option_map};
 ghost use Rattle.serde_json.specs.View.{view};
-ghost use Rattle.troop_main.specs.Grammar.{is_blank, value_of, guest_step, call_step, step_of_word, step_of_data, step_of, meaning_of};
+ghost use Rattle.troop_main.specs.Grammar.{is_blank_line, value_of, guest_step, call_step, step_of_word, step_of_data, step_of, meaning_of};
 
 use crate::requests::{read_call, read_num};
 use crate::values::{read_lang, read_name, read_who};
@@ -45,7 +45,7 @@ pub fn read_line(alloc: Global, line: &[u8]) -> Result<Meaning, AllocError>
 
 // White space alone.
 fn is_blank(line: &[u8]) -> bool
-    ensures { result ≡ is_blank line.now }
+    ensures { result ≡ is_blank_line line.now }
 {
     line.iter()
         .all(|b| matches!(*b, b' ' | b'\t' | b'\n' | b'\r'))

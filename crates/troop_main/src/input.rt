@@ -27,7 +27,7 @@ pub enum Input {
 /// Reads to the end, or until the input is too much.
 pub fn read_input<I: Source>(alloc: Global, input: &mut I) -> Input
     requires { I.closed input.old ≡ false }
-    ensures { ReadsInput result (I.left input.old) (I.left input.new) (I.faults input.old) (I.faults input.new) }
+    ensures { ReadsInput result (I.remaining input.old) (I.remaining input.new) (I.faults input.old) (I.faults input.new) }
 {
     let mut bytes = Vec::new(alloc);
     let mut buf = [0; PIECE];

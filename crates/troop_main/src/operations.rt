@@ -2,7 +2,7 @@
 ghost use Rattle.std.specs.Prelude.{◌≡◌, ◌≤◌, ◌+◌, true, nat_le, map, IfOk};
 ghost use Rattle.serde_json.specs.View.{view};
 ghost use Rattle.ot_text.specs.Change.{base, then, nothing};
-ghost use Rattle.ot_text.specs.Parts.{passed_by, part_then};
+ghost use Rattle.ot_text.specs.Parts.{part_base, part_then};
 ghost use Rattle.troop_main.specs.Values.{most_count};
 ghost use Rattle.troop_main.specs.Operations.{part_of_int, part_of, op_of_list, op_of};
 
@@ -61,7 +61,7 @@ fn part_of_count(count: i64) -> Part
 // Puts a part in where the numbers stay within their limit, and answers whether they do.
 fn put_part(builder: &mut OpBuilder, part: &Part) -> Result<bool, AllocError>
     requires { base builder.old ≤ most_count }
-    ensures fits { IfOk result (λ fits. fits ≡ nat_le (base builder.old + passed_by part.now) most_count) }
+    ensures fits { IfOk result (λ fits. fits ≡ nat_le (base builder.old + part_base part.now) most_count) }
     ensures put { IfOk result (λ fits. fits ≡ true → builder.new ≡ then builder.old (part_then part.now nothing)) }
 {
     let passed = match part {

@@ -4,7 +4,7 @@ ghost use Rattle.serde_json.specs.Data.{array};
 ghost use Rattle.serde_json.specs.Written.{has_float};
 ghost use Rattle.serde_json.specs.View.{view, items_of};
 ghost use Rattle.log_model.specs.Log.{doc};
-ghost use Rattle.troop_main.specs.Print.{line_of, run_data, document_data, server_line, kept_data, clash_data, member_data, ahead_data, base_data, crowded_data, reply_line};
+ghost use Rattle.troop_main.specs.Print.{printed_line, run_data, document_data, server_line, kept_data, clash_data, member_data, ahead_data, base_data, crowded_data, reply_line};
 
 use author_marks::Run;
 use ot_text::Text;
@@ -121,7 +121,7 @@ fn utf8_of(alloc: Global, text: &Text) -> Result<String, AllocError>
 // The compact text of a value, and a line feed.
 fn print_value(alloc: Global, value: &Value) -> Result<Vec<u8>, AllocError>
     requires { has_float (view value.now) ≡ false }
-    ensures { IfOk result (λ line. line.items ≡ line_of (view value.now)) }
+    ensures { IfOk result (λ line. line.items ≡ printed_line (view value.now)) }
 {
     let mut line = value.to_string(alloc)?.into_bytes();
     line.push(b'\n')?;

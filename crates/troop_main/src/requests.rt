@@ -1,7 +1,7 @@
 //! The calls that a script's requests ask.
 ghost use Rattle.std.specs.Prelude.{◌≡◌, IfOk};
 ghost use Rattle.serde_json.specs.View.{view};
-ghost use Rattle.troop_main.specs.Requests.{seen_of, num_of, op_field, text_field, edit_of, eval_of, reset_of, call_of_word, call_of};
+ghost use Rattle.troop_main.specs.Requests.{seen_field, num_of, op_field, text_field, edit_of, eval_of, reset_of, call_of_word, call_of};
 
 use crate::operations::read_op;
 use crate::values::{read_count, read_text};
@@ -68,7 +68,7 @@ fn read_reset(alloc: Global, request: &Value) -> Result<Option<Call>, AllocError
 
 // How many rows its maker had seen.
 fn read_seen(request: &Value) -> Option<u64>
-    ensures { result ≡ seen_of (view request.now) }
+    ensures { result ≡ seen_field (view request.now) }
 {
     read_count(request.get("seen")?)
 }

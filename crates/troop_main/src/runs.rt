@@ -23,13 +23,13 @@ pub fn replay<I: Source, O: Sink, E: Sink>(
     requires out_open { O.closed out.old ≡ false }
     requires err_open { E.closed err.old ≡ false }
     ensures table { Replays result.code
-        (port_of (I.left input.old) (I.left input.new) (I.faults input.old) (I.faults input.new))
+        (port_of (I.remaining input.old) (I.remaining input.new) (I.faults input.old) (I.faults input.new))
         (port_of (O.taken out.old) (O.taken out.new) (O.faults out.old) (O.faults out.new))
         (port_of (E.taken err.old) (E.taken err.new) (E.faults err.old) (E.faults err.new)) }
     ensures too_much { IsTooMuchExactly result.code
-        (port_of (I.left input.old) (I.left input.new) (I.faults input.old) (I.faults input.new)) }
+        (port_of (I.remaining input.old) (I.remaining input.new) (I.faults input.old) (I.faults input.new)) }
     ensures unbuilt { IsUnbuiltExactly result.code
-        (port_of (I.left input.old) (I.left input.new) (I.faults input.old) (I.faults input.new))
+        (port_of (I.remaining input.old) (I.remaining input.new) (I.faults input.old) (I.faults input.new))
         (port_of (E.taken err.old) (E.taken err.new) (E.faults err.old) (E.faults err.new)) }
 {
     run(alloc, input, out).report(err)
@@ -40,7 +40,7 @@ fn run<I: Source, O: Sink>(alloc: Global, input: &mut I, out: &mut O) -> Outcome
     requires input_open { I.closed input.old ≡ false }
     requires out_open { O.closed out.old ≡ false }
     ensures { Runs result
-        (port_of (I.left input.old) (I.left input.new) (I.faults input.old) (I.faults input.new))
+        (port_of (I.remaining input.old) (I.remaining input.new) (I.faults input.old) (I.faults input.new))
         (port_of (O.taken out.old) (O.taken out.new) (O.faults out.old) (O.faults out.new)) }
 {
     match read_input(alloc, input) {

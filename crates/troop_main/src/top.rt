@@ -33,13 +33,13 @@ pub fn troop<I: Source, O: Sink, E: Sink>(
         Reported (port_of (E.taken err.old) (E.taken err.new) (E.faults err.old) (E.faults err.new)) (error_line Outcome.Usage) }
 
     ensures replay { command_of (map string_bytes words.now) ≡ Some Command.Replay → Replays result.code
-        (port_of (I.left input.old) (I.left input.new) (I.faults input.old) (I.faults input.new))
+        (port_of (I.remaining input.old) (I.remaining input.new) (I.faults input.old) (I.faults input.new))
         (port_of (O.taken out.old) (O.taken out.new) (O.faults out.old) (O.faults out.new))
         (port_of (E.taken err.old) (E.taken err.new) (E.faults err.old) (E.faults err.new)) }
     ensures too_much { command_of (map string_bytes words.now) ≡ Some Command.Replay → IsTooMuchExactly result.code
-        (port_of (I.left input.old) (I.left input.new) (I.faults input.old) (I.faults input.new)) }
+        (port_of (I.remaining input.old) (I.remaining input.new) (I.faults input.old) (I.faults input.new)) }
     ensures unbuilt { command_of (map string_bytes words.now) ≡ Some Command.Replay → IsUnbuiltExactly result.code
-        (port_of (I.left input.old) (I.left input.new) (I.faults input.old) (I.faults input.new))
+        (port_of (I.remaining input.old) (I.remaining input.new) (I.faults input.old) (I.faults input.new))
         (port_of (E.taken err.old) (E.taken err.new) (E.faults err.old) (E.faults err.new)) }
 {
     match read_command(words) {

@@ -1,7 +1,7 @@
 //! The kinds of JSON values that the grammars name.
 ghost use Rattle.std.specs.Prelude.{◌≡◌, IfOk};
 ghost use Rattle.serde_json.specs.View.{view};
-ghost use Rattle.troop_main.specs.Values.{count_of, who_of, text_of, name_of, lang_of};
+ghost use Rattle.troop_main.specs.Values.{count_of, who_of, text_value, name_of, lang_of};
 
 use ot_text::Text;
 use serde_json::Value;
@@ -30,7 +30,7 @@ pub fn read_who(value: &Value) -> Option<u32>
 
 /// A string.
 pub fn read_text(alloc: Global, value: &Value) -> Result<Option<Text>, AllocError>
-    ensures { IfOk result (λ text. text ≡ text_of (view value.now)) }
+    ensures { IfOk result (λ text. text ≡ text_value (view value.now)) }
 {
     match value.as_str() {
         Some(string) => Ok(Some(Text::of(alloc, string)?)),

@@ -2,8 +2,8 @@
 ghost use Rattle.std.specs.Prelude.{◌≡◌, ◌≤◌, ◌-◌, [], ◌∷◌, true, false, IsOk, IfOk, IfErr, OnOk, OnErr};
 ghost use Rattle.troop_entry.specs.Told.{block_told};
 ghost use Rattle.stage_state.specs.Causes.{IsTypeCause, IsEvalCause, IsResetCause, IsTakeCause};
-ghost use Rattle.stage_state.specs.Machine.{ask, next_of, after_act, IsSend, CanAct};
-ghost use Rattle.stage_state.specs.Staged.{machine, with_act, after_next, IsStagePlayed, IsQuiet};
+ghost use Rattle.stage_state.specs.Machine.{after_asking, next_of, after_act, IsSend, CanAct};
+ghost use Rattle.stage_state.specs.Staged.{machine, with_act, stage_after_next, IsStagePlayed, IsQuiet};
 
 use super::Stage;
 use crate::{Act, Next, StageError, TakeError};
@@ -102,7 +102,7 @@ impl Stage {
     // As `next`, by this seat.
     pub(super) fn next_at(&mut self, seat: u64) -> Result<Next, AllocError>
         ensures answer { IfOk result (λ next. next ≡ next_of (machine self.old.staged)) }
-        ensures acts { IfOk result (λ next. self.new.staged ≡ after_next seat next self.old.staged) }
+        ensures acts { IfOk result (λ next. self.new.staged ≡ stage_after_next seat next self.old.staged) }
         ensures played { IsStagePlayed self.new.staged }
         ensures spare { IfOk result (λ next. IsSend next → self.new.spare ≡ self.old.spare - 1) }
         ensures quiet { IfOk result (λ next. IsQuiet next → self.new ≡ self.old) }
@@ -164,7 +164,7 @@ impl Stage {
     // Places an act by which this call is asked.
     fn ask(&mut self, seat: u64, act: Act, call: Call) -> Result<(), AllocError>
         requires can { CanAct (machine self.old.staged) act }
-        requires asks { after_act act (machine self.old.staged) ≡ ask (call ∷ []) (machine self.old.staged) }
+        requires asks { after_act act (machine self.old.staged) ≡ after_asking (call ∷ []) (machine self.old.staged) }
         ensures ok { OnOk result (self.new.staged ≡ with_act seat act self.old.staged) }
         ensures played { IsStagePlayed self.new.staged }
         ensures spare { OnOk result (self.new.spare ≡ self.old.spare - 1) }

@@ -1,6 +1,6 @@
 //! The play of an act by a seat.
 ghost use Rattle.std.specs.Prelude.{◌≡◌, ◌≤◌, true, IsOk, IfOk, OnOk, OnErr};
-ghost use Rattle.stage_state.specs.Replies.{reply_of, places, played, is_free, spare_left};
+ghost use Rattle.stage_state.specs.Replies.{reply_of, accepts, stage_after, is_free, spare_left};
 ghost use Rattle.stage_state.specs.Staged.{machine, IsStagePlayed};
 
 use super::Stage;
@@ -14,10 +14,10 @@ impl Stage {
     /// Memory is taken only where the act would be placed, and none for `Finish` and `Halt`.
     pub fn play(&mut self, seat: u64, act: &Act) -> Result<ActReply, AllocError>
         ensures reply { IfOk result (λ reply. reply ≡ reply_of (machine self.old.staged) act.now) }
-        ensures acts { OnOk result (self.new.staged ≡ played seat act.now self.old.staged) }
+        ensures acts { OnOk result (self.new.staged ≡ stage_after seat act.now self.old.staged) }
         ensures played { IsStagePlayed self.new.staged }
         ensures spare { OnOk result (spare_left act.now (machine self.old.staged) self.old.spare ≤ self.new.spare) }
-        ensures wanting { OnErr result (places (machine self.old.staged) act.now ≡ true) }
+        ensures wanting { OnErr result (accepts (machine self.old.staged) act.now ≡ true) }
         ensures memory { OnErr result (self.new.staged ≡ self.old.staged) }
         ensures room { OnErr result (self.old.spare ≤ self.new.spare) }
         ensures free { is_free act.now ≡ true → IsOk result }

@@ -1,4 +1,4 @@
-use Rattle.ot_transform.proofs.Through.{through-append, inserted-through, base-through, IsRun-append, run_end-append}
+use Rattle.ot_transform.proofs.Through.{through-append, inserted-through, base-through, IsRun-append, chain_end-append}
 use Rattle.ot_transform.proofs.laws.chain_law.Goals as goal
 
 pub returns : goal.returns
@@ -7,5 +7,5 @@ returns c = record {
   inserted = inserted-through;
   base = base-through;
   two_runs = IsRun-append;
-  two_ends = run_end-append;
+  two_ends = chain_end-append;
 }

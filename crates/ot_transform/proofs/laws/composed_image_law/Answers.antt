@@ -1,5 +1,5 @@
-use Rattle.ot_transform.proofs.Composition.{base-comp, image-comp-filled}
+use Rattle.ot_transform.proofs.Composition.{base-comp, image-comp-item_element}
 use Rattle.ot_transform.proofs.laws.composed_image_law.Goals as goal
 
 pub returns : goal.returns
-returns c = record { base = base-comp; image = image-comp-filled }
+returns c = record { base = base-comp; image = image-comp-item_element }
