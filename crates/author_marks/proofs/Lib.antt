@@ -1,3 +1,3 @@
-pub mod Room
-pub mod RunsMade
+pub mod RoomOf
+pub mod WithLast
 pub mod RunsOf

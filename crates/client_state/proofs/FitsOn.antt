@@ -2,11 +2,11 @@
 use Rattle.std.proofs.Common.{◌≡◌, ℕ, Option, None, Some, length, sym, ap, ◌∙◌}
 use Rattle.ot_text.specs.Change.{Change, base, target, effect}
 use Rattle.ot_text.specs.Marked.{Marked, char_by}
-use Rattle.ot_text.proofs.Effects.{length-effect}
+use Rattle.ot_text.proofs.EffectOf.{length-effect}
 use Rattle.ot_transform.specs.Transform.{right}
 use Rattle.ot_transform.proofs.Merge.{base-left, base-right}
-use Rattle.ot_transform.proofs.Composition.{base-comp}
-use Rattle.ot_transform.proofs.Lengths.{target-left}
+use Rattle.ot_transform.proofs.Comp.{base-comp}
+use Rattle.ot_transform.proofs.LeftLengths.{target-left}
 use Rattle.log_model.specs.Log.{doc_after}
 use Rattle.log_model.specs.Legal.{OpFits}
 use Rattle.client_state.specs.declared.state.State.{State}

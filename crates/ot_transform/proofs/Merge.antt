@@ -1,11 +1,11 @@
 -- Each way round makes the merge of both.
 use Rattle.std.proofs.Common.{◌≡◌, ℕ, suc, ◌+◌, ◌&&◌, if◌then◌else◌, List, [], ◌∷◌, ◌++◌, length, map, refl, sym, ap, ◌∙◌, append-nil, arith}
 use Rattle.ot_text.specs.Change.{Fate, Gone, Kept, Change, base, target, fates_target, stays, text_behind, effect_on, effect, insert_then, retain_then}
-use Rattle.ot_text.proofs.Effects.{effect-insert_then}
+use Rattle.ot_text.proofs.EffectOf.{effect-insert_then}
 use Rattle.ot_text.proofs.Then.{base-retain_then}
 use Rattle.ot_transform.specs.Merge.{merge_at, merge}
 use Rattle.ot_transform.specs.Transform.{place_then, left_gap_then, left_on, left, right_gap_then, right_on, right}
-use Rattle.ot_transform.proofs.Gaps.{change, each_from-suc, append_of_three}
+use Rattle.ot_transform.proofs.EachGap.{change, each_from-suc, append_of_three}
 
 -- retaining new characters
 effect-retain_new : {X : Type 0} (new other : ℕ → X) (t : List ℕ) (c : Change) (m : List X)

@@ -5,7 +5,7 @@ use Rattle.ot_text.specs.declared.op.TheConstants.{MAX_LEN}
 use Rattle.ot_text.specs.Change.{Change, base, target, inserted}
 use Rattle.ot_transform.specs.Chain.{through, IsChain, chain_end, ChainFits}
 use Rattle.ot_transform.specs.Transform.{left}
-use Rattle.ot_transform.proofs.Lengths.{inserted-left}
+use Rattle.ot_transform.proofs.LeftLengths.{inserted-left}
 use Rattle.ot_transform.proofs.Merge.{base-left}
 
 -- moved through the first i of the run, the operation has to go through the others

@@ -33,7 +33,7 @@ impl<'a> Step<'a> {
     }
 
     // Puts behind `made` what the step does in the first operation, moved through the second.
-    #[tactic(auto, using(crate::proofs::StepLengths::step_lengths))]
+    #[tactic(auto, using(crate::proofs::StepFits::step_lengths))]
     pub(crate) fn put_left(&self, made: &mut OpBuilder) -> Result<(), AllocError>
         requires { StepFits made.old (left_step self.now) }
         ensures ok { OnOk result (made.new ≡ then made.old (left_step self.now)) }
@@ -49,7 +49,7 @@ impl<'a> Step<'a> {
     }
 
     // Puts behind `made` what the step does in the second operation, moved through the first.
-    #[tactic(auto, using(crate::proofs::StepLengths::step_lengths))]
+    #[tactic(auto, using(crate::proofs::StepFits::step_lengths))]
     pub(crate) fn put_right(&self, made: &mut OpBuilder) -> Result<(), AllocError>
         requires { StepFits made.old (right_step self.now) }
         ensures ok { OnOk result (made.new ≡ then made.old (right_step self.now)) }

@@ -10,7 +10,7 @@ use Rattle.log_model.specs.Log.{doc_after, doc, entries}
 use Rattle.log_model.specs.Legal.{IsLegal}
 use Rattle.troop_entry.specs.Told.{op_told, is_edit_of}
 use Rattle.log_model.specs.Told.{doc_told}
-use Rattle.log_model.proofs.Telling.{told_doc, told_between}
+use Rattle.log_model.proofs.DocTold.{told_doc, told_between}
 use Rattle.client_state.specs.declared.state.State.{State}
 use Rattle.client_state.specs.declared.state.State.TheVariants.{Synchronized, Awaiting, WithBuffer}
 use Rattle.client_state.specs.Pending.{outstanding, is_awaiting}

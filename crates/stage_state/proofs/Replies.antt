@@ -5,7 +5,7 @@ use Rattle.std.proofs.lemmas.Bool.Decides.{nat_tests}
 use Rattle.ot_text.specs.Change.{Change, base}
 use Rattle.troop_entry.specs.declared.entry.Entry.{Entry}
 use Rattle.ot_text.specs.Same.{same_op}
-use Rattle.ot_text.proofs.Sames.{op_decides}
+use Rattle.ot_text.proofs.SameOp.{op_decides}
 use Rattle.troop_entry.specs.Told.{op_told, is_edit_of, block_told}
 use Rattle.log_model.specs.Legal.{OpFits}
 use Rattle.client_state.specs.Pending.{outstanding, other_base}

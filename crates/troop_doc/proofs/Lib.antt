@@ -1,8 +1,8 @@
 pub mod BlockPlaces
-pub mod BlockSteps
-pub mod LargestRun
-pub mod LineLists
+pub mod BlockRound
+pub mod IsLargestRound
+pub mod LinesOf
 pub mod LinePlaces
-pub mod LinesNumbered
-pub mod OneBlock
-pub mod Pairs
+pub mod LiesOn
+pub mod IsBlockRound
+pub mod ArePaired

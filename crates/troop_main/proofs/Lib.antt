@@ -5,6 +5,6 @@ pub mod LinePieces
 pub mod Reports
 pub mod Fronts
 pub mod Printing
-pub mod Exact
+pub mod Exactly
 pub mod Steps
 pub mod FirstLines

@@ -10,7 +10,7 @@ use Rattle.serde_json.specs.declared.value.Value.{Value}
 use Rattle.ot_text.specs.Change.{Change, base, then, nothing}
 use Rattle.ot_text.specs.declared.part.Part.{Part}
 use Rattle.ot_text.specs.Parts.{part_base, base_of, part_then, norm}
-use Rattle.ot_text.proofs.Sums.{base-norm}
+use Rattle.ot_text.proofs.Norm.{base-norm}
 use Rattle.ot_text.proofs.Then.{norm-append}
 use Rattle.troop_main.specs.Values.{most_count, elements}
 use Rattle.troop_main.specs.Operations.{part_of, parts_of_list, op_of_parts, op_of_list}

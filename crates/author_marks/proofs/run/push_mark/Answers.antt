@@ -1,6 +1,6 @@
 use Rattle.std.proofs.Common.{sym, ◌∙◌}
 use Rattle.std.proofs.lemmas.Bool.{false≢true}
-use Rattle.author_marks.proofs.RunsMade.{set_last, push_last}
+use Rattle.author_marks.proofs.WithLast.{set_last, push_last}
 use Rattle.author_marks.proofs.run.push_mark.Goals as goal
 
 pub returns-then-goes_on : goal.returns-then-goes_on

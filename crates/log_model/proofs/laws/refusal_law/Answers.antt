@@ -1,4 +1,4 @@
-use Rattle.log_model.proofs.Placing.{placed_answer, refused_answer}
+use Rattle.log_model.proofs.Answer.{placed_answer, refused_answer}
 use Rattle.log_model.proofs.laws.refusal_law.Goals as goal
 
 pub returns-clause-placed : goal.returns-clause-placed

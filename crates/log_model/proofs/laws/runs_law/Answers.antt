@@ -1,4 +1,4 @@
-use Rattle.log_model.proofs.Histories.{runs_between, leads_between, moves_between}
+use Rattle.log_model.proofs.IsLegal.{runs_between, leads_between, moves_between}
 use Rattle.log_model.proofs.laws.runs_law.Goals as goal
 
 pub returns-clause-run : goal.returns-clause-run

@@ -1,4 +1,4 @@
-use Rattle.ot_text.proofs.Payable.{insert_count-le-inserted}
+use Rattle.ot_text.proofs.InsertCount.{insert_count-le-inserted}
 use Rattle.ot_text.proofs.Then.{target-le}
 use Rattle.ot_text.proofs.laws.room_law.Goals as goal
 

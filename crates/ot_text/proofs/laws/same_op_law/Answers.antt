@@ -1,4 +1,4 @@
-use Rattle.ot_text.proofs.Sames.{op_decides}
+use Rattle.ot_text.proofs.SameOp.{op_decides}
 use Rattle.ot_text.proofs.laws.same_op_law.Goals as goal
 
 pub returns : goal.returns

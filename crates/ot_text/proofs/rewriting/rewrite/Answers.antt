@@ -1,7 +1,7 @@
 use Rattle.std.proofs.Common.{length, ap, ◌∙◌, arith}
 use Rattle.ot_text.specs.Change.{base, target}
-use Rattle.ot_text.proofs.Applied.{part_fits, part_applied}
-use Rattle.ot_text.proofs.Rewritten.{part_has_room}
+use Rattle.ot_text.proofs.AppliedSoFar.{part_fits, part_applied}
+use Rattle.ot_text.proofs.PieceOf.{part_has_room}
 use Rattle.ot_text.proofs.rewriting.rewrite.Goals as goal
 
 pub put_part-at-requires-clause-within : goal.put_part-at-requires-clause-within

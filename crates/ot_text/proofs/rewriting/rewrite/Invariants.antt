@@ -1,6 +1,6 @@
 use Rattle.std.proofs.Common.{◌≤◌, vec_capacity}
 use Rattle.ot_text.specs.Change.{target}
-use Rattle.ot_text.proofs.Applied.{IsAppliedSoFar}
+use Rattle.ot_text.proofs.AppliedSoFar.{IsAppliedSoFar}
 use Rattle.ot_text.proofs.rewriting.rewrite.Given as goal
 
 abbrev pub invariant-loop-part : goal.invariant-loop-part

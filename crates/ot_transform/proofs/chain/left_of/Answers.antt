@@ -1,5 +1,5 @@
 use Rattle.std.proofs.Common.{◌∙◌}
-use Rattle.ot_transform.proofs.SoFar.{left_fits, left_so_far, left_at_end}
+use Rattle.ot_transform.proofs.LeftSoFar.{left_fits, left_so_far, left_at_end}
 use Rattle.ot_transform.proofs.ToGo.{bases-step, to_go-step}
 use Rattle.ot_transform.proofs.chain.left_of.Goals as goal
 

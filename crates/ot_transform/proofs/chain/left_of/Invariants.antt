@@ -1,7 +1,7 @@
 use Rattle.ot_text.specs.Parts.{norm}
 use Rattle.ot_transform.specs.Transform.{left}
 use Rattle.ot_transform.specs.Walk.{HasOneBase}
-use Rattle.ot_transform.proofs.SoFar.{IsLeftSoFar}
+use Rattle.ot_transform.proofs.LeftSoFar.{IsLeftSoFar}
 use Rattle.ot_transform.proofs.ToGo.{to_go}
 use Rattle.ot_transform.proofs.chain.left_of.Given as goal
 

@@ -1,5 +1,5 @@
 use Rattle.std.proofs.Common.{◌∙◌, arith}
-use Rattle.ot_transform.proofs.SoFarComposed.{part_room, part_composed, composed_at_end}
+use Rattle.ot_transform.proofs.ComposedSoFar.{part_room, part_composed, composed_at_end}
 use Rattle.ot_transform.proofs.composite.compose.Goals as goal
 
 pub add_part-requires : goal.add_part-requires

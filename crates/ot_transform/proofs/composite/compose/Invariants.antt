@@ -1,4 +1,4 @@
-use Rattle.ot_transform.proofs.SoFarComposed.{IsComposedSoFar}
+use Rattle.ot_transform.proofs.ComposedSoFar.{IsComposedSoFar}
 use Rattle.ot_transform.proofs.composite.compose.Given as goal
 
 abbrev pub invariant-loop-part : goal.invariant-loop-part

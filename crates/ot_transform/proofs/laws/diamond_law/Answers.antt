@@ -1,4 +1,4 @@
-use Rattle.ot_transform.proofs.Composition.{comp-both_ways}
+use Rattle.ot_transform.proofs.Comp.{comp-both_ways}
 use Rattle.ot_transform.proofs.laws.diamond_law.Goals as goal
 
 pub returns : goal.returns

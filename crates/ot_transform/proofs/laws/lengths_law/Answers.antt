@@ -1,4 +1,4 @@
-use Rattle.ot_transform.proofs.Lengths.{inserted-left, inserted-right, target-left, target-comp}
+use Rattle.ot_transform.proofs.LeftLengths.{inserted-left, inserted-right, target-left, target-comp}
 use Rattle.ot_transform.proofs.laws.lengths_law.Goals as goal
 
 pub returns : goal.returns

@@ -1,4 +1,4 @@
-use Rattle.ot_transform.proofs.Places.{image-gaps, gap_place-length, item_element-ins_places, item_element-kept_place}
+use Rattle.ot_transform.proofs.GapPlace.{image-gaps, gap_place-length, item_element-ins_places, item_element-kept_place}
 use Rattle.ot_transform.proofs.laws.places_law.Goals as goal
 
 pub returns : goal.returns

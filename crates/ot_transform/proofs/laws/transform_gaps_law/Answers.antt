@@ -1,4 +1,4 @@
-use Rattle.ot_transform.proofs.GapImages.{image-left, image-right}
+use Rattle.ot_transform.proofs.LeftImage.{image-left, image-right}
 use Rattle.ot_transform.proofs.Merge.{base-left, base-right}
 use Rattle.ot_transform.proofs.laws.transform_gaps_law.Goals as goal
 

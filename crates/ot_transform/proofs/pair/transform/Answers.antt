@@ -2,7 +2,7 @@ use Rattle.std.proofs.Common.{◌+◌, ◌≤◌, ◌∙◌, arith}
 use Rattle.ot_text.specs.declared.op.TheConstants.{MAX_LEN}
 use Rattle.ot_text.specs.Change.{target, inserted}
 use Rattle.ot_text.proofs.Then.{target-le}
-use Rattle.ot_transform.proofs.SoFar.{left_fits, left_so_far, left_at_end, right_fits, right_so_far, right_at_end}
+use Rattle.ot_transform.proofs.LeftSoFar.{left_fits, left_so_far, left_at_end, right_fits, right_so_far, right_at_end}
 use Rattle.ot_transform.proofs.ToGo.{bases-step, to_go-step}
 use Rattle.ot_transform.proofs.pair.transform.Goals as goal
 

@@ -1,7 +1,7 @@
 use Rattle.ot_text.specs.Parts.{norm}
 use Rattle.ot_transform.specs.Transform.{left, right}
 use Rattle.ot_transform.specs.Walk.{HasOneBase}
-use Rattle.ot_transform.proofs.SoFar.{IsLeftSoFar, IsRightSoFar}
+use Rattle.ot_transform.proofs.LeftSoFar.{IsLeftSoFar, IsRightSoFar}
 use Rattle.ot_transform.proofs.ToGo.{to_go}
 use Rattle.ot_transform.proofs.pair.transform.Given as goal
 

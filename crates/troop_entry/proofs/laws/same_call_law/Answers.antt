@@ -1,4 +1,4 @@
-use Rattle.troop_entry.proofs.Sames.{call_decides}
+use Rattle.troop_entry.proofs.SameCall.{call_decides}
 use Rattle.troop_entry.proofs.laws.same_call_law.Goals as goal
 
 pub returns : goal.returns

@@ -1,4 +1,4 @@
-use Rattle.troop_main.proofs.Exact.{too_much_is_exact}
+use Rattle.troop_main.proofs.Exactly.{too_much_is_exact}
 use Rattle.troop_main.proofs.laws.too_much_exactly.Goals as goal
 
 pub returns : goal.returns

@@ -1,4 +1,4 @@
-use Rattle.troop_main.proofs.Exact.{too_much_is_exact, unbuilt_is_exact}
+use Rattle.troop_main.proofs.Exactly.{too_much_is_exact, unbuilt_is_exact}
 use Rattle.troop_main.proofs.runs.replay.Goals as goal
 
 -- by the table

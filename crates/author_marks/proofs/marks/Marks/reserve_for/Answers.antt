@@ -1,7 +1,7 @@
 use Rattle.std.proofs.Common.{length, arith}
 use Rattle.std.proofs.lemmas.Result.{on_ok_weaker}
 use Rattle.std.specs.Prelude.{vec_capacity}
-use Rattle.author_marks.proofs.Room.{has_room}
+use Rattle.author_marks.proofs.RoomOf.{has_room}
 use Rattle.author_marks.proofs.marks.Marks.reserve_for.Goals as goal
 
 pub returns-clause-ok : goal.returns-clause-ok

@@ -1,5 +1,5 @@
 use Rattle.std.proofs.Common.{take, length-take, arith}
-use Rattle.author_marks.proofs.RunsMade.{runs_of-take, counts_below}
+use Rattle.author_marks.proofs.WithLast.{runs_of-take, counts_below}
 use Rattle.author_marks.proofs.marks.Marks.runs.Goals as goal
 
 pub push_mark-requires : goal.push_mark-requires

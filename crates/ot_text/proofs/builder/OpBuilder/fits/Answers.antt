@@ -1,6 +1,6 @@
 use Rattle.std.proofs.Common.{arith}
 use Rattle.std.proofs.lemmas.Bool.{leb-true, le-leb}
-use Rattle.ot_text.proofs.Kept.{short_with_part, room_with_part}
+use Rattle.ot_text.proofs.IsKept.{short_with_part, room_with_part}
 use Rattle.ot_text.proofs.builder.OpBuilder.fits.Goals as goal
 
 pub returns-then-passed-base : goal.returns-then-passed-base

@@ -1,4 +1,4 @@
-use Rattle.ot_text.proofs.Kept.{room_with_part}
+use Rattle.ot_text.proofs.IsKept.{room_with_part}
 use Rattle.ot_text.proofs.builder.OpBuilder.put.Goals as goal
 
 pub retain-requires-clause-base : goal.retain-requires-clause-base

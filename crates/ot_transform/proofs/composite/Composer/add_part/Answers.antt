@@ -1,6 +1,6 @@
 use Rattle.std.proofs.Common.{refl}
 use Rattle.std.proofs.lemmas.Result.{on_ok_weaker}
-use Rattle.ot_transform.proofs.GoingOn.{places_removed}
+use Rattle.ot_transform.proofs.GoesOn.{places_removed}
 use Rattle.ot_transform.proofs.composite.Composer.add_part.Goals as goal
 
 pub returns-in-Delete : goal.returns-in-Delete

@@ -1,4 +1,4 @@
-use Rattle.ot_transform.proofs.SoFarComposed.{ArePlacesSoFar}
+use Rattle.ot_transform.proofs.ComposedSoFar.{ArePlacesSoFar}
 use Rattle.ot_transform.proofs.composite.Composer.add_places.Given as goal
 
 abbrev pub invariant-loop-left : goal.invariant-loop-left

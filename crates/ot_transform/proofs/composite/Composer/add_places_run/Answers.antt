@@ -2,7 +2,7 @@ use Rattle.std.proofs.Common.{ap, arith}
 use Rattle.ot_text.specs.Change.{target}
 use Rattle.ot_text.specs.Parts.{norm}
 use Rattle.ot_text.proofs.Then.{target-retain_then}
-use Rattle.ot_transform.proofs.GoingOn.{places_kept, places_gone}
+use Rattle.ot_transform.proofs.GoesOn.{places_kept, places_gone}
 use Rattle.ot_transform.proofs.composite.Composer.add_places_run.Goals as goal
 
 pub retain-requires-clause-target : goal.retain-requires-clause-target

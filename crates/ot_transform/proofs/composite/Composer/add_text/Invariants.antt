@@ -1,5 +1,5 @@
 use Rattle.std.proofs.Common.{◌-◌, length}
-use Rattle.ot_transform.proofs.SoFarComposed.{IsTextSoFar}
+use Rattle.ot_transform.proofs.ComposedSoFar.{IsTextSoFar}
 use Rattle.ot_transform.proofs.composite.Composer.add_text.Given as goal
 
 abbrev pub invariant-loop-at : goal.invariant-loop-at

@@ -3,7 +3,7 @@ use Rattle.std.proofs.lemmas.List.{length-take-le}
 use Rattle.ot_text.specs.Change.{target}
 use Rattle.ot_text.specs.Parts.{norm}
 use Rattle.ot_text.proofs.Then.{target-retain_then}
-use Rattle.ot_transform.proofs.GoingOn.{characters_kept, characters_gone}
+use Rattle.ot_transform.proofs.GoesOn.{characters_kept, characters_gone}
 use Rattle.ot_transform.proofs.composite.Composer.add_text_run.Goals as goal
 
 pub insert_chars-requires : goal.insert_chars-requires

@@ -1,6 +1,6 @@
 use Rattle.std.proofs.Common.{ap}
 use Rattle.ot_text.specs.Parts.{norm}
-use Rattle.ot_transform.proofs.GoingOn.{second_text_put}
+use Rattle.ot_transform.proofs.GoesOn.{second_text_put}
 use Rattle.ot_transform.proofs.composite.Composer.put_text.Goals as goal
 
 pub returns-in_ok-insert-clause-goes_on : goal.returns-in_ok-insert-clause-goes_on

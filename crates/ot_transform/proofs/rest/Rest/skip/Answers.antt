@@ -1,6 +1,6 @@
 use Rattle.std.proofs.Common.{◌∷◌, sym, ap, ◌∙◌}
 use Rattle.ot_transform.specs.Rest.{first_keeps}
-use Rattle.ot_transform.proofs.Rests.{norm-skipped}
+use Rattle.ot_transform.proofs.Shortened.{norm-skipped}
 use Rattle.ot_transform.proofs.rest.Rest.skip.Goals as goal
 use Rattle.ot_transform.proofs.rest.Rest.skip.Goals.{in-Retain, in-Insert, in-Delete}
 

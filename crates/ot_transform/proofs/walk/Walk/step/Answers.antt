@@ -1,6 +1,6 @@
 use Rattle.std.proofs.Common.{ap, ◌∙◌, sym, arith}
 use Rattle.ot_text.specs.Parts.{norm}
-use Rattle.ot_transform.proofs.Rests.{start_of_untexted, both_at_end}
+use Rattle.ot_transform.proofs.Shortened.{start_of_untexted, both_at_end}
 use Rattle.ot_transform.proofs.walk.Walk.step.Goals as goal
 
 pub returns-in-Some-take_text : goal.returns-in-Some-take_text

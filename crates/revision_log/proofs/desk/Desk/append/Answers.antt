@@ -2,7 +2,7 @@ use Rattle.std.proofs.Common.{◌≡◌, ◌≤◌, ◌<◌, ◌+◌, ◌∙◌,
 use Rattle.std.specs.Vec.{vec_len, vec_capacity}
 use Rattle.log_model.specs.Log.{doc_after}
 use Rattle.revision_log.specs.DeskInvariant.{IsDesk, has_stayed, departed_after}
-use Rattle.revision_log.proofs.Desks.{row_op_fits, leaver_stays, some_stay, desk_more, room_more}
+use Rattle.revision_log.proofs.IsDesk.{row_op_fits, leaver_stays, some_stay, desk_more, room_more}
 use Rattle.revision_log.proofs.desk.Desk.append.Goals as goal
 
 pub make_ready-requires : goal.make_ready-requires

@@ -1,5 +1,5 @@
 use Rattle.std.proofs.Common.{◌≤◌, arith}
-use Rattle.revision_log.proofs.Desks.{few_joined}
+use Rattle.revision_log.proofs.IsDesk.{few_joined}
 use Rattle.revision_log.proofs.desk.Desk.author.Goals as goal
 
 pub overflow_cast-result : goal.overflow_cast-result

@@ -1,5 +1,5 @@
 use Rattle.std.proofs.Common.{sym, ◌∙◌}
-use Rattle.log_model.proofs.Placing.{refused_answer}
+use Rattle.log_model.proofs.Answer.{refused_answer}
 use Rattle.revision_log.proofs.desk.Desk.serve.Goals as goal
 
 pub returns-in-Some-clause-answer : goal.returns-in-Some-clause-answer

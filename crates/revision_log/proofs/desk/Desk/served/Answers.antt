@@ -1,7 +1,7 @@
 use Rattle.std.proofs.Common.{sym, arith}
 use Rattle.std.proofs.lemmas.List.{take_rest}
-use Rattle.revision_log.proofs.Moving.{runs_behind}
-use Rattle.revision_log.proofs.Refusals.{placed_edit}
+use Rattle.revision_log.proofs.MovedSoFar.{runs_behind}
+use Rattle.revision_log.proofs.SeenRefusal.{placed_edit}
 use Rattle.revision_log.proofs.desk.Desk.served.Goals as goal
 
 pub moved_through-requires : goal.moved_through-requires

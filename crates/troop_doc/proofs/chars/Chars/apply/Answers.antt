@@ -1,6 +1,6 @@
 use Rattle.std.proofs.Common.{length}
 use Rattle.std.specs.Prelude.{vec_capacity}
-use Rattle.author_marks.proofs.Room.{fits_room}
+use Rattle.author_marks.proofs.RoomOf.{fits_room}
 use Rattle.troop_doc.proofs.chars.Chars.apply.Goals as goal
 
 pub rewrite-requires-clause-room : goal.rewrite-requires-clause-room

@@ -1,5 +1,5 @@
 use Rattle.std.proofs.Common.{◌∙◌, arith}
-use Rattle.troop_doc.proofs.Pairs.{length-pairs, effect-pairs, length-effects}
+use Rattle.troop_doc.proofs.ArePaired.{length-pairs, effect-pairs, length-effects}
 use Rattle.troop_doc.proofs.doc.Doc.apply.Goals as goal
 
 pub apply-requires-clause-base : goal.apply-requires-clause-base

@@ -1,6 +1,6 @@
 use Rattle.std.proofs.Common.{length, refl, ap, arith}
 use Rattle.std.proofs.lemmas.Result.{err_from_is_err_and}
-use Rattle.troop_doc.proofs.Pairs.{length-pairs, text_value-pairs}
+use Rattle.troop_doc.proofs.ArePaired.{length-pairs, text_value-pairs}
 use Rattle.troop_doc.proofs.doc.Doc.block_at.Goals as goal
 
 pub block_round-requires : goal.block_round-requires

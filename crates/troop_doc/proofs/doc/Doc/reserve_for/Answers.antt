@@ -1,5 +1,5 @@
 use Rattle.std.proofs.Common.{◌∙◌}
-use Rattle.troop_doc.proofs.Pairs.{length-pairs}
+use Rattle.troop_doc.proofs.ArePaired.{length-pairs}
 use Rattle.troop_doc.proofs.doc.Doc.reserve_for.Goals as goal
 
 pub reserve_for-requires : goal.reserve_for-requires

@@ -1,4 +1,4 @@
-use Rattle.troop_doc.proofs.Pairs.{text_value-pairs}
+use Rattle.troop_doc.proofs.ArePaired.{text_value-pairs}
 use Rattle.troop_doc.proofs.doc.Doc.text.Goals as goal
 
 pub returns : goal.returns
