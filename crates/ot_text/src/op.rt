@@ -10,7 +10,7 @@ use crate::parts::{clone_parts, same_parts};
 use std::alloc::AllocError;
 use std::marker::Model;
 
-/// The longest base, and the longest target, of an operation.
+/// The longest base, and the longest target, of an operation: the sum of two such lengths fits in 64 bits.
 pub const MAX_LEN: u64 = 1 << 62;
 
 /// A normal operation: what it does to a text of the length of its base.
