@@ -1,6 +1,7 @@
 -- Rows under their numbers.
-use Rattle.std.proofs.Common.{◌≡◌, ◌≢◌, ℕ, zero, suc, ◌+◌, ◌<◌, ◌≤◌, Bool, true, false, ◌&&◌, ◌||◌, if◌then◌else◌, nat_lt, Option, None, Some, List, [], ◌∷◌, ◌++◌, length, take, slice_get, refl, sym, ap, ◌∙◌, subst, true≢false, arith}
+use Rattle.std.proofs.Common.{◌≡◌, ◌≢◌, ℕ, zero, suc, ◌+◌, ◌<◌, ◌≤◌, Bool, true, false, ◌||◌, if◌then◌else◌, nat_lt, Option, None, Some, List, [], ◌∷◌, ◌++◌, length, take, slice_get, refl, sym, ap, ◌∙◌, subst, true≢false, arith}
 use Rattle.std.specs.Prelude.{◌==◌}
+use Rattle.std.proofs.lemmas.Bool.{and_parts}
 use Rattle.std.proofs.lemmas.Bool.Decides.{nat_tests}
 use Rattle.troop_entry.specs.declared.call.Call.{Call}
 use Rattle.troop_entry.specs.declared.call.Call.TheVariants as call
@@ -190,15 +191,10 @@ pub record IsToldOf (log : List Row) (who num at : ℕ) : Type 0 where
   pub who_is : row.who ≡ who
   pub num_is : row.num ≡ num
 
-both_tests : (a b : Bool) → (a && b) ≡ true → (a ≡ true) × (b ≡ true)
-both_tests true true e = (refl, refl)
-both_tests true false e = absurd (cc)
-both_tests false b e = absurd (cc)
-
 told_of : (log : List Row) (who num : ℕ) (c : Call) (found : ℕ × Call) → earlier_call log who num c ≡ Some found → (told : IsToldOf log who num found.0) × (told.row.call ≡ found.1)
 told_of log who num c found is =
     let r = row_under 0 who num log found (asked_is (is_join c || (num == 0)) is) in
-    let tests = both_tests (r.row.who == who) (r.row.num == num) r.under in (
+    let tests = and_parts (r.row.who == who) (r.row.num == num) r.under in (
       record {
         row = r.row;
         is_row = ap (slice_get log) (omega (arith, r.sum)) ∙ r.is_row;

@@ -1,6 +1,8 @@
 -- The numbers of the performers.
 use Rattle.std.proofs.Common.{◌≡◌, ℕ, zero, suc, ◌+◌, ◌≤◌, Bool, true, false, ◌&&◌, ◌||◌, not, Option, List, [], ◌∷◌, ◌++◌, length, take, drop, slice_get, Some, nat_lt, ◌<◌, refl, sym, ap, ◌∙◌, subst, arith, take-append-drop, true≢false}
 use Rattle.std.specs.Prelude.{nat_le, ◌==◌}
+use Rattle.std.proofs.Math.Bool.{or-false}
+use Rattle.std.proofs.lemmas.Bool.{and_parts, and_right, or_parts}
 use Rattle.std.proofs.lemmas.Bool.Decides.{nat_tests}
 use Rattle.std.proofs.lemmas.List.{take_all}
 use Rattle.std.proofs.lemmas.List.Folds.{list_any-append}
@@ -45,27 +47,15 @@ next_number : (other who count : ℕ) → who ≡ count + 1
     → ((nat_le 1 other && nat_le other count) || (who == other || false)) ≡ (nat_le 1 other && nat_le other (count + 1))
 next_number other who count next = grind (arith, nat_tests)
 
-or_neither : (a : Bool) → (a || (false || false)) ≡ a
-or_neither true = refl
-or_neither false = refl
-
-first_false : (a b : Bool) → (a || b) ≡ false → a ≡ false
-first_false true b none = absurd (cc)
-first_false false b none = refl
-
-both_true : (a b : Bool) → (a && b) ≡ true → a ≡ true
-both_true true b is = refl
-both_true false b is = absurd (cc)
-
 -- the joins stay as they were behind a row that is none
 same_joins : (log : List Row) (row : Row) (who : ℕ) → is_join row.call ≡ false → has_join (log ++ row ∷ []) who ≡ has_join log who
 same_joins log row who no_join =
-    has_join-one_more log row who ∙ ap (λ b. has_join log who || ((b && (row.who == who)) || false)) no_join ∙ or_neither (has_join log who)
+    has_join-one_more log row who ∙ ap (λ b. has_join log who || ((b && (row.who == who)) || false)) no_join ∙ or-false (has_join log who)
 
 -- a row that is no leave changes nobody's leaving
 pub same_leaves : (log : List Row) (row : Row) (who : ℕ) → is_leave row.call ≡ false → has_leave (log ++ row ∷ []) who ≡ has_leave log who
 same_leaves log row who no_leave =
-    has_leave-one_more log row who ∙ ap (λ b. has_leave log who || ((b && (row.who == who)) || false)) no_leave ∙ or_neither (has_leave log who)
+    has_leave-one_more log row who ∙ ap (λ b. has_leave log who || ((b && (row.who == who)) || false)) no_leave ∙ or-false (has_leave log who)
 
 -- a row that is no join leaves the number of joins
 pub same_count : (log : List Row) (row : Row) → is_join row.call ≡ false → join_count (log ++ row ∷ []) ≡ join_count log
@@ -102,10 +92,10 @@ left_more : (log : List Row) (who num seat : ℕ) (op : Option Change) → IsRow
 left_more log who num seat op is_made numbered =
     let row : Row = record { who = who; num = num; seat = seat; call = call.Leave; op = op } in
     let member = first_chosen (is_member log who) (reply.Placed (length log) who) (reply.NotMember who) refl (made_is_new log row is_made).1 in
-    let joined : has_join log who ≡ true = both_true (has_join log who) (not (has_leave log who)) member.0 in
+    let joined : has_join log who ≡ true = (and_parts (has_join log who) (not (has_leave log who)) member.0).0 in
     same_numbers log row refl numbered (λ other none.
     has_leave-one_more log row other ∙ ap (λ b. has_leave log other || (b || false)) (not_stranger log who other joined none)
-    ∙ or_neither (has_leave log other) ∙ numbered.strangers other none)
+    ∙ or-false (has_leave log other) ∙ numbered.strangers other none)
 
 joined_more : (log : List Row) (who num seat : ℕ) (name : List ℕ) (lang : Lang) (op : Option Change) → IsRowMade log (record { who = who; num = num; seat = seat; call = call.Join name lang; op = op })
     → AreNumbered log → AreNumbered (log ++ record { who = who; num = num; seat = seat; call = call.Join name lang; op = op } ∷ [])
@@ -120,7 +110,7 @@ joined_more log who num seat name lang op is_made numbered =
       numbers = λ other. has_join-one_more log row other ∙ ap (λ b. b || (who == other || false)) (numbered.numbers other)
           ∙ next_number other who (join_count log) next ∙ ap (λ n. nat_le 1 other && nat_le other n) (sym count);
       strangers = λ other none. same_leaves log row other refl
-          ∙ numbered.strangers other (first_false (has_join log other) (who == other || false) (sym (has_join-one_more log row other) ∙ none));
+          ∙ numbered.strangers other ((or_parts (has_join log other) (who == other || false) (sym (has_join-one_more log row other) ∙ none)).0);
     }
 
 numbered_more : (log : List Row) (who num seat : ℕ) (c : Call) (op : Option Change) → IsRowMade log (record { who = who; num = num; seat = seat; call = c; op = op })
@@ -176,11 +166,7 @@ joins_of_front n log =
 number_known : (count who : ℕ) (log : List Row) → AreNumberedTo count log → has_join log who ≡ true → (1 ≤ who) × (who ≤ count)
 number_known count who log numbers joined =
     let tests : (nat_le 1 who && nat_le who count) ≡ true = sym (numbers who) ∙ joined in
-    (grind (arith, nat_tests, both_true (nat_le 1 who) (nat_le who count) tests), grind (arith, nat_tests, second_true (nat_le 1 who) (nat_le who count) tests))
-  where
-    second_true : (a b : Bool) → (a && b) ≡ true → b ≡ true
-    second_true true b is = is
-    second_true false b is = absurd (cc)
+    (grind (arith, nat_tests, (and_parts (nat_le 1 who) (nat_le who count) tests).0), grind (arith, nat_tests, (and_parts (nat_le 1 who) (nat_le who count) tests).1))
 
 -- a row's performer is one of those that have joined
 pub row_number : (log : List Row) (i : ℕ) (row : Row) → IsLegal log → slice_get log i ≡ Some row → (1 ≤ row.who) × (row.who ≤ join_count log)
@@ -194,7 +180,7 @@ row_number log i row legal e = by_kind (is_join row.call) refl
         (omega (arith, next), omega (arith, next, more, joins_of_front (suc i) log))
     by_kind false is =
         let member = row_by_member log i row legal e is in
-        let joined = both_true (has_join (take i log) row.who) (not (has_leave (take i log) row.who)) member in
+        let joined = (and_parts (has_join (take i log) row.who) (not (has_leave (take i log) row.who)) member).0 in
         let known = number_known (join_count (take i log)) row.who (take i log) (numbered (take i log) (legal_front log i legal)).numbers joined in
         (known.0, omega (arith, known.1, joins_of_front i log))
 
@@ -211,10 +197,6 @@ join_first log i j row other legal e f is same = by_order (nat_lt j i) refl
         let known = row_number (take i log) j other (legal_front log i legal) (slice_get-take log j i other below f) in
         absurd (omega (arith, next, known.1, same))
 
-and_false : (a : Bool) → (a && false) ≡ false
-and_false true = refl
-and_false false = refl
-
 -- nor behind its leave
 pub leave_last : (log : List Row) (i j : ℕ) (row other : Row) → IsLegal log → slice_get log i ≡ Some row → slice_get log j ≡ Some other
     → is_leave row.call ≡ true → other.who ≡ row.who → j ≤ i
@@ -228,5 +210,5 @@ leave_last log i j row other legal e f is same = by_order (nat_lt i j) (is_join 
         let member = row_by_member log j other legal f kind in
         let his : is_leave_by other.who row ≡ true = rw (is, equal_true row.who other.who (sym same)) refl in
         let left : has_leave (take j log) other.who ≡ true = any_at (is_leave_by other.who) (take j log) i row (slice_get-take log i j row below e) his in
-        let none : is_member (take j log) other.who ≡ false = ap (λ b. has_join (take j log) other.who && not b) left ∙ and_false (has_join (take j log) other.who) in
+        let none : is_member (take j log) other.who ≡ false = ap (λ b. has_join (take j log) other.who && not b) left ∙ and_right (has_join (take j log) other.who) false refl in
         absurd (true≢false (sym member ∙ none))

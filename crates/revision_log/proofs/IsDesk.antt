@@ -1,6 +1,8 @@
 -- What a desk keeps behind one more row.
 use Rattle.std.proofs.Common.{◌≡◌, ◌≢◌, ℕ, zero, suc, ◌+◌, ◌-◌, ◌≤◌, ◌<◌, Bool, true, false, ◌&&◌, ◌||◌, not, if◌then◌else◌, Option, None, Some, List, [], ◌∷◌, ◌++◌, length, take, drop, slice_get, get_or, set, length-set, refl, sym, ◌∙◌, ap, subst, arith, length-append, ⊎_elim, option_map}
 use Rattle.std.specs.Prelude.{nat_le, nat_lt, ◌==◌, count_by}
+use Rattle.std.proofs.Math.Bool.{or-false}
+use Rattle.std.proofs.lemmas.Bool.{and_parts}
 use Rattle.std.proofs.lemmas.Bool.Decides.{nat_tests}
 use Rattle.std.proofs.lemmas.List.{take-append-le, take_at, take_all}
 use Rattle.std.proofs.lemmas.List.Sums.{sum_by-append, sum_by-set, count_by-le-length}
@@ -58,10 +60,6 @@ length_at_is rows pairs lengths (suc n) keeps within = get_or_from_slice_get len
 or_true : (a : Bool) → (a || (true || false)) ≡ true
 or_true true = refl
 or_true false = refl
-
-or_neither : (a : Bool) → (a || (false || false)) ≡ a
-or_neither true = refl
-or_neither false = refl
 
 -- ---- the members
 
@@ -132,7 +130,7 @@ left_at rows row departed i j true keeps leave is there within test =
 left_at rows row departed i j false keeps leave is there within test =
     let other : j ≢ i = grind (arith, nat_tests, test) in
     let not_his : (row.who == suc j) ≡ false = grind (arith, nat_tests, is, other) in
-    slice_get-set_other departed i j true other ∙ keeps.left_are j within ∙ ap Some (sym (leave_marks rows row (suc j) false leave not_his ∙ or_neither (has_leave rows (suc j))))
+    slice_get-set_other departed i j true other ∙ keeps.left_are j within ∙ ap Some (sym (leave_marks rows row (suc j) false leave not_his ∙ or-false (has_leave rows (suc j))))
 
 found : (place : Option Bool) → has_not_departed place ≡ true → place ≡ Some false
 found None there = absurd (cc)
@@ -180,11 +178,6 @@ few_joined rows departed legal keeps = omega (arith, (numbered rows legal).few, 
 
 -- ---- the numbers
 
-both_hold : (a b : Bool) → (a && b) ≡ true → (a ≡ true) × (b ≡ true)
-both_hold true true is = (refl, refl)
-both_hold true false is = absurd (cc)
-both_hold false b is = absurd (cc)
-
 -- the positions with one row more, which is new under its number
 pub numbers_more : (rows : List Row) (row : Row) (places places' : List ((ℕ × ℕ) × ℕ)) (at : ℕ) → KeepsNumbers rows places → at ≡ length rows
     → (1 ≤ row.num → call_under rows row.who row.num ≡ None)
@@ -198,8 +191,8 @@ numbers_more rows row places places' at keeps is_at free noted who num some = by
     by_test : (b : Bool) (found : Option (ℕ × Call)) → is_numbered who num row ≡ b → call_under rows who num ≡ found
         → position_of places' who num ≡ option_map (λ (f : ℕ × Call). f.0) (call_under (rows ++ row ∷ []) who num)
     by_test true found is is_found =
-        let w : row.who ≡ who = grind (arith, nat_tests, (both_hold (row.who == who) (row.num == num) is).0) in
-        let n : row.num ≡ num = grind (arith, nat_tests, (both_hold (row.who == who) (row.num == num) is).1) in
+        let w : row.who ≡ who = grind (arith, nat_tests, (and_parts (row.who == who) (row.num == num) is).0) in
+        let n : row.num ≡ num = grind (arith, nat_tests, (and_parts (row.who == who) (row.num == num) is).1) in
         let none : call_under rows who num ≡ None = ap (λ k. call_under rows k num) (sym w) ∙ ap (call_under rows row.who) (sym n) ∙ free (omega (arith, n, some)) in
         here true is ∙ sym (ap (option_map (λ (f : ℕ × Call). f.0)) (call_under-one_more 0 who num rows row at (omega (arith, is_at)) none
         ∙ ap (λ (t : Bool). if t then Some (at, row.call) else None) is))
