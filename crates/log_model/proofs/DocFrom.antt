@@ -1,10 +1,10 @@
--- Documents of logs, and the run that the operations of their rows are.
+-- Documents of logs, and the chain that the operations of their rows are.
 use Rattle.std.proofs.Common.{◌≡◌, ℕ, suc, ◌≤◌, Option, None, Some, List, [], ◌∷◌, ◌++◌, length, take, drop, slice_get, refl, sym, ap, subst, ◌∙◌, take-append-drop}
 use Rattle.ot_text.specs.Change.{Change, base}
 use Rattle.ot_text.specs.Marked.{Marked, char_by}
 use Rattle.ot_text.proofs.EffectOf.{length-effect}
 use Rattle.ot_transform.specs.Chain.{through, IsChain, chain_end}
-use Rattle.ot_transform.proofs.Through.{base-through, IsRun-append}
+use Rattle.ot_transform.proofs.Through.{base-through, IsChain-append}
 use Rattle.troop_entry.specs.declared.row.Row.{Row}
 use Rattle.log_model.specs.Log.{with_op, ops, doc_after, doc_from, doc}
 use Rattle.log_model.specs.Legal.{OpFits}
@@ -26,7 +26,7 @@ doc_next log i row e = ap doc (take_next log i row e) ∙ doc-one_more (take i l
 doc-split : (n : ℕ) (rows : List Row) → doc_from (doc (take n rows)) (drop n rows) ≡ doc rows
 doc-split n rows = sym (doc_from-append [] (take n rows) (drop n rows)) ∙ ap doc (take-append-drop n rows)
 
--- ---- the run of the rows' operations
+-- ---- the chain of the rows' operations
 
 with_op-append : (o : Option Change) (bs cs : List Change) → with_op o (bs ++ cs) ≡ with_op o bs ++ cs
 with_op-append None bs cs = refl
@@ -36,7 +36,7 @@ ops-append : (xs ys : List Row) → ops (xs ++ ys) ≡ ops xs ++ ops ys
 ops-append [] ys = refl
 ops-append (row ∷ xs) ys = ap (with_op row.op) (ops-append xs ys) ∙ with_op-append row.op (ops xs) (ops ys)
 
--- an operation in front of a run fits, and the run goes on from the text that it makes
+-- an operation in front of a chain fits, and the chain goes on from the text that it makes
 fits_first : (who : ℕ) (o : Option Change) (m : Marked) (cs : List Change) → IsChain (length m) (with_op o cs) → OpFits o (length m) × IsChain (length (doc_after who o m)) cs
 fits_first who None m cs run = (tt, run)
 fits_first who (Some c) m cs run = (run.0, subst (λ n. IsChain n cs) (sym (length-effect (char_by who) c m (sym run.0))) run.1)
@@ -45,7 +45,7 @@ ends_behind : (who : ℕ) (o : Option Change) (m : Marked) (cs : List Change) �
 ends_behind who None m cs fits = refl
 ends_behind who (Some c) m cs fits = ap (λ n. chain_end n cs) (sym (length-effect (char_by who) c m (sym fits)))
 
--- a run leads to the document behind its rows
+-- a chain leads to the document behind its rows
 ends_at : (m : Marked) (rows : List Row) → IsChain (length m) (ops rows) → chain_end (length m) (ops rows) ≡ length (doc_from m rows)
 ends_at m [] run = refl
 ends_at m (row ∷ rows) run =
@@ -56,16 +56,16 @@ lone : (o : Option Change) (n : ℕ) → OpFits o n → IsChain n (with_op o [])
 lone None n fits = tt
 lone (Some c) n fits = (fits, tt)
 
--- a run goes on with a row whose operation fits the document behind it
+-- a chain goes on with a row whose operation fits the document behind it
 pub run-one_more : (rows : List Row) (row : Row) → IsChain 0 (ops rows) → OpFits row.op (length (doc rows)) → IsChain 0 (ops (rows ++ row ∷ []))
 run-one_more rows row run fits =
     let behind : IsChain (chain_end 0 (ops rows)) (ops (row ∷ [])) = subst (λ n. IsChain n (ops (row ∷ []))) (sym (ends_at [] rows run)) (lone row.op (length (doc rows)) fits) in
-    subst (IsChain 0) (sym (ops-append rows (row ∷ []))) ((IsRun-append 0 (ops rows) (ops (row ∷ []))).1 (run, behind))
+    subst (IsChain 0) (sym (ops-append rows (row ∷ []))) ((IsChain-append 0 (ops rows) (ops (row ∷ []))).1 (run, behind))
 
--- the run from a revision on
+-- the chain from a revision on
 pub run_behind : (n : ℕ) (rows : List Row) → IsChain 0 (ops rows) → IsChain (length (doc (take n rows))) (ops (drop n rows))
 run_behind n rows run =
-    let parts = (IsRun-append 0 (ops (take n rows)) (ops (drop n rows))).0
+    let parts = (IsChain-append 0 (ops (take n rows)) (ops (drop n rows))).0
     (subst (IsChain 0) (sym (ap ops (take-append-drop n rows)) ∙ ops-append (take n rows) (drop n rows)) run) in
     subst (λ k. IsChain k (ops (drop n rows))) (ends_at [] (take n rows) parts.0) parts.1
 

@@ -46,7 +46,7 @@ front_runs (suc n) log legal within =
     let before : IsChain 0 (ops (take n log)) = front_runs n log legal (omega arith) in
     rw (take_next log n here.0 here.1) (run-one_more (take n log) here.0 before (made_fits (take n log) here.0 before (legal n here.0 here.1)))
 
--- the operations of a legal log are a run on the empty text
+-- the operations of a legal log are a chain on the empty text
 pub legal_runs : (log : List Row) → IsLegal log → IsChain 0 (ops log)
 legal_runs log legal = subst (λ rows. IsChain 0 (ops rows)) (take_all (length log) log (omega arith)) (front_runs (length log) log legal (omega arith))
 

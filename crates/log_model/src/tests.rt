@@ -15,7 +15,7 @@ fn each_law_is_called(_rt: HostRuntime) {
     once_law();
     placed_law();
     refusal_law();
-    runs_law();
+    chains_law();
     seen_law();
     tells_law();
     told_law();

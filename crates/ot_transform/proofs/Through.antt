@@ -1,4 +1,4 @@
--- An operation on its way through a run of others.
+-- An operation on its way through a chain of others.
 use Rattle.std.proofs.Common.{◌≡◌, ℕ, ◌+◌, ◌<◌, ◌≤◌, ◌↔◌, List, [], ◌∷◌, ◌++◌, length, get_or, drop, refl, sym, ap, ◌∙◌}
 use Rattle.std.proofs.lemmas.List.{drop_more}
 use Rattle.ot_text.specs.declared.op.TheConstants.{MAX_LEN}
@@ -8,7 +8,7 @@ use Rattle.ot_transform.specs.Transform.{left}
 use Rattle.ot_transform.proofs.LeftLengths.{inserted-left}
 use Rattle.ot_transform.proofs.Merge.{base-left}
 
--- moved through the first i of the run, the operation has to go through the others
+-- moved through the first i of the chain, the operation has to go through the others
 pub record IsThroughSoFar (bs : List Change) (i : ℕ) (op a : Change) : Type 0 where
   pub whole : through op (drop i bs) ≡ through a bs
   pub run : IsChain (base op) (drop i bs)
@@ -39,7 +39,7 @@ moved_on bs i b op a within is s =
       room = rw (inserted-left op b same) room.1;
     }
 
--- a run and another behind it
+-- a chain and another behind it
 pub through-append : (a : Change) (bs cs : List Change) → through a (bs ++ cs) ≡ through (through a bs) cs
 through-append a [] cs = refl
 through-append a (b ∷ bs) cs = through-append (left a b) bs cs
@@ -58,11 +58,11 @@ base-through a (b ∷ bs) run =
     let moved : base (left a b) ≡ target b = base-left a b (sym run.0) in
     base-through (left a b) bs (rw moved run.1) ∙ ap (λ n. chain_end n bs) moved
 
--- a run in two parts
-pub IsRun-append : (n : ℕ) (bs cs : List Change) → IsChain n (bs ++ cs) ↔ (IsChain n bs × IsChain (chain_end n bs) cs)
-IsRun-append n [] cs = (λ run. (tt, run), λ runs. runs.1)
-IsRun-append n (b ∷ bs) cs =
-    let rest = IsRun-append (target b) bs cs in
+-- a chain in two parts
+pub IsChain-append : (n : ℕ) (bs cs : List Change) → IsChain n (bs ++ cs) ↔ (IsChain n bs × IsChain (chain_end n bs) cs)
+IsChain-append n [] cs = (λ run. (tt, run), λ runs. runs.1)
+IsChain-append n (b ∷ bs) cs =
+    let rest = IsChain-append (target b) bs cs in
     (λ run. let runs = rest.0 run.1 in ((run.0, runs.0), runs.1), λ runs. (runs.0.0, rest.1 (runs.0.1, runs.1)))
 
 -- where two chains in a row lead

@@ -1,4 +1,4 @@
--- An operation, moved through a run of others.
+-- An operation, moved through a chain of others.
 use Rattle.std.specs.Prelude.{◌≡◌, ◌+◌, ◌≤◌, ℕ, List, [], ◌∷◌}
 use Rattle.ot_text.specs.declared.op.TheConstants.{MAX_LEN}
 use Rattle.ot_text.specs.Change.{Change, base, target}
@@ -9,12 +9,12 @@ abbrev pub through : Change → List Change → Change
 through a [] = a
 through a (b ∷ bs) = through (left a b) bs
 
--- a run on a text of length n: the first base is n, and each other one is the target before it
+-- a chain on a text of length n: the first base is n, and each other one is the target before it
 abbrev pub IsChain : ℕ → List Change → Type 0
 IsChain n [] = Unit {0}
 IsChain n (b ∷ bs) = (base b ≡ n) × IsChain (target b) bs
 
--- the length of the text that a run on a text of length n leads to: the last target, and n where the run is empty
+-- the length of the text that a chain on a text of length n leads to: the last target, and n where the chain is empty
 abbrev pub chain_end : ℕ → List Change → ℕ
 chain_end n [] = n
 chain_end n (b ∷ bs) = chain_end (target b) bs

@@ -33,7 +33,7 @@ pub fn try_left_of(alloc: Global, a: &Op, b: &Op) -> Result<Op, AllocError>
     left_of(alloc, a, b)
 }
 
-/// The operation moved through a run of others, one after another.
+/// The operation moved through a chain of others, one after another.
 pub fn left_through(alloc: Global, a: &Op, bs: &[Op]) -> Result<Op, AllocError>
     requires run { IsChain (base a.now) bs.now }
     requires room { ChainFits (inserted a.now) bs.now }

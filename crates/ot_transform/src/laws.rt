@@ -53,8 +53,8 @@ pub fn composed_image_law()
         → map Some (image (comp a b)) ≡ map (item_element New (image a)) (image b) }
 {}
 
-/// Two runs one behind the other, the second on the text that the first leads to, are one run and are moved through as
-/// one. An operation moved through a run puts in as many characters as before, and applies to the text that the run leads to.
+/// Two chains one behind the other, the second on the text that the first leads to, are one chain and are moved through as
+/// one. An operation moved through a chain puts in as many characters as before, and applies to the text that the chain leads to.
 pub fn chain_law()
     ensures append { (a : Change) (bs cs : List Change)
         → through a (bs ++ cs) ≡ through (through a bs) cs }
@@ -62,7 +62,7 @@ pub fn chain_law()
         → inserted (through a bs) ≡ inserted a }
     ensures base { (a : Change) (bs : List Change) → IsChain (base a) bs
         → base (through a bs) ≡ chain_end (base a) bs }
-    ensures two_runs { (n : ℕ) (bs cs : List Change)
+    ensures two_chains { (n : ℕ) (bs cs : List Change)
         → IsChain n (bs ++ cs) ↔ (IsChain n bs × IsChain (chain_end n bs) cs) }
     ensures two_ends { (n : ℕ) (bs cs : List Change)
         → chain_end n (bs ++ cs) ≡ chain_end (chain_end n bs) cs }

@@ -2,7 +2,7 @@
 //!
 //! A contract sees an operation as `ot_text` does. Definitions say what the calls answer: `left`
 //! and `right` for two operations on one base, each moved through the other; `through` for an
-//! operation moved through a run of others; and `comp` for two operations in a row. Laws tie these
+//! operation moved through a chain of others; and `comp` for two operations in a row. Laws tie these
 //! to the merge of two operations, to gaps and to images: each law is the contract of an empty
 //! function.
 //!

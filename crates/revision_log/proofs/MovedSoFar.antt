@@ -41,6 +41,6 @@ stays_on rows i row moved op within is none s =
     let e : ops (drop i rows) ≡ ops (drop (i + 1) rows) = ops_split rows i row None within is none in
     record { whole = ap (through moved) (sym e) ∙ s.whole; run = subst (IsChain (base moved)) e s.run }
 
--- the operations of the rows behind a revision are a run on its document
+-- the operations of the rows behind a revision are a chain on its document
 pub runs_behind : (n : ℕ) (log : List Row) → IsLegal log → IsChain (length (doc (take n log))) (ops (drop n log))
 runs_behind n log legal = run_behind n log (legal_runs log legal)

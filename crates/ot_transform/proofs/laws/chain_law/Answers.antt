@@ -1,4 +1,4 @@
-use Rattle.ot_transform.proofs.Through.{through-append, inserted-through, base-through, IsRun-append, chain_end-append}
+use Rattle.ot_transform.proofs.Through.{through-append, inserted-through, base-through, IsChain-append, chain_end-append}
 use Rattle.ot_transform.proofs.laws.chain_law.Goals as goal
 
 pub returns : goal.returns
@@ -6,6 +6,6 @@ returns c = record {
   append = through-append;
   inserted = inserted-through;
   base = base-through;
-  two_runs = IsRun-append;
+  two_chains = IsChain-append;
   two_ends = chain_end-append;
 }

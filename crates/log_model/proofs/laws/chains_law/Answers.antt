@@ -1,5 +1,5 @@
 use Rattle.log_model.proofs.IsLegal.{runs_between, leads_between, moves_between}
-use Rattle.log_model.proofs.laws.runs_law.Goals as goal
+use Rattle.log_model.proofs.laws.chains_law.Goals as goal
 
 pub returns-clause-run : goal.returns-clause-run
 returns-clause-run c = runs_between
