@@ -1,0 +1,9 @@
+pub mod FateOf
+pub mod Turns
+pub mod LivesOf
+pub mod IsTold
+pub mod LimitBehind
+pub mod FedPipe
+pub mod IsFeedStep
+pub mod FeedsTo
+pub mod IsClosing

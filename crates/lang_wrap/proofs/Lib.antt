@@ -1,0 +1,3 @@
+pub mod CommandEnd
+pub mod HasBraceLine
+pub mod IsCommand

@@ -1,0 +1,11 @@
+use Rattle.std.proofs.Common.{◌||◌, ◌==◌, rules, tests}
+use Rattle.std.proofs.lemmas.Iterator.Search.{any_from_yields_List}
+use Rattle.std.proofs.lemmas.Iterator.Splits.{YieldsList-from_slice_split}
+use Rattle.lang_wrap.specs.Wraps.{opens, closes}
+use Rattle.lang_wrap.proofs.wraps.has_brace_line.Goals as goal
+
+pub returns : goal.returns
+returns c =
+    any_from_yields_List (λ line. opens line || closes line) _ _ _ c.any.ensures.ran
+    (YieldsList-from_slice_split _ (λ b. b == 10) c.args.bytes.now c.split.ensures.rest c.split.ensures.done c.split.ensures.closure (λ x b q k. search (rules, tests)))
+    (λ x b q k. search (rules, tests))

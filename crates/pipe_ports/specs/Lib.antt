@@ -1,0 +1,3 @@
+pub mod Pipes
+pub mod Scripts
+pub mod HatchInvariant
