@@ -90,80 +90,46 @@ fn assert_holds(
 #[test]
 fn what_is_held_back_is_sent_once_the_first_edit_is_confirmed(rt: HostRuntime) -> Result<(), Fail> {
     let alloc = rt.alloc();
-    let (ann, bob) = (&mut Client::new(alloc, 1), &mut Client::new(alloc, 2));
-    joins_are_taken(&rt, alloc, ann)?;
-    joins_are_taken(&rt, alloc, bob)?;
-    ann_types(&rt, alloc, ann)?;
-    bob_types(&rt, alloc, bob)?;
-    ann_is_overtaken(&rt, alloc, ann)?;
-    ann_is_confirmed(&rt, alloc, ann)?;
-    bob_is_confirmed_and_overtaken(&rt, alloc, bob)?;
-    assert!(rt; ann.doc().same(bob.doc()));
-    Ok(())
-}
+    let mut ann = Client::new(alloc, 1);
+    let mut bob = Client::new(alloc, 2);
+    for joined in [join(alloc, 0, 1, "ann")?, join(alloc, 1, 2, "bob")?] {
+        assert!(rt; take(&mut ann, &joined)?.is_none());
+        assert!(rt; take(&mut bob, &joined)?.is_none());
+    }
 
-fn joins_are_taken(rt: &impl Abort, alloc: Global, client: &mut Client) -> Result<(), Fail> {
-    assert!(rt; take(client, &join(alloc, 0, 1, "ann")?)?.is_none());
-    assert!(rt; take(client, &join(alloc, 1, 2, "bob")?)?.is_none());
-    Ok(())
-}
-
-fn ann_types(rt: &impl Abort, alloc: Global, ann: &mut Client) -> Result<(), Fail> {
     let a = op(alloc, 0, "a", 0)?;
     assert!(rt; sends(&ann.edit(&a)?, &a));
     assert!(rt; ann.edit(&op(alloc, 1, "b", 0)?)?.is_none());
     assert!(rt; ann.edit(&op(alloc, 2, "c", 0)?)?.is_none());
-    Ok(())
-}
-
-fn bob_types(rt: &impl Abort, alloc: Global, bob: &mut Client) -> Result<(), Fail> {
     let z = op(alloc, 0, "z", 0)?;
     assert!(rt; sends(&bob.edit(&z)?, &z));
-    Ok(())
-}
 
-// Bob's edit, as the log has it.
-fn by_bob(alloc: Global) -> Result<Entry, AllocError> {
-    Ok(entry(2, 2, 2, Deed::Edit(op(alloc, 0, "z", 0)?)))
-}
-
-// Ann's edits, as the log has them behind Bob's.
-fn by_ann(alloc: Global) -> Result<(Entry, Entry), AllocError> {
-    let first = entry(3, 1, 2, Deed::Edit(op(alloc, 0, "a", 1)?));
-    let second = entry(4, 1, 4, Deed::Edit(op(alloc, 1, "bc", 1)?));
-    Ok((first, second))
-}
-
-fn ann_is_overtaken(rt: &impl Abort, alloc: Global, ann: &mut Client) -> Result<(), Fail> {
-    assert!(rt; take(ann, &by_bob(alloc)?)?.is_none());
+    let abcz = Text::of(alloc, "abcz")?;
+    let marks = [(1, 3), (2, 1)];
+    let by_bob = entry(2, 2, 2, Deed::Edit(z));
+    let a_moved = op(alloc, 0, "a", 1)?;
+    let bc_moved = op(alloc, 1, "bc", 1)?;
+    assert!(rt; take(&mut ann, &by_bob)?.is_none());
     let State::WithBuffer(sent, buffer) = ann.state() else {
         return Err("an edit is held back".into());
     };
-    assert!(rt; sent.same(&op(alloc, 0, "a", 1)?));
-    assert!(rt; buffer.same(&op(alloc, 1, "bc", 1)?));
-    assert_holds(rt, ann, &Text::of(alloc, "abcz")?, &[(1, 3), (2, 1)], 3)
-}
+    assert!(rt; sent.same(&a_moved) && buffer.same(&bc_moved));
+    assert_holds(&rt, &ann, &abcz, &marks, 3)?;
 
-fn ann_is_confirmed(rt: &impl Abort, alloc: Global, ann: &mut Client) -> Result<(), Fail> {
-    let (first, second) = by_ann(alloc)?;
-    assert!(rt; sends(&take(ann, &first)?, &op(alloc, 1, "bc", 1)?));
+    let first = entry(3, 1, 2, Deed::Edit(a_moved));
+    assert!(rt; sends(&take(&mut ann, &first)?, &bc_moved));
     assert!(rt; matches!(ann.state(), State::Awaiting(_)));
-    assert!(rt; take(ann, &second)?.is_none());
-    assert!(rt; matches!(ann.state(), State::Synchronized));
-    assert_holds(rt, ann, &Text::of(alloc, "abcz")?, &[(1, 3), (2, 1)], 5)
-}
-
-fn bob_is_confirmed_and_overtaken(
-    rt: &impl Abort,
-    alloc: Global,
-    bob: &mut Client,
-) -> Result<(), Fail> {
-    let (first, second) = by_ann(alloc)?;
-    assert!(rt; take(bob, &by_bob(alloc)?)?.is_none());
-    assert!(rt; take(bob, &first)?.is_none());
-    assert!(rt; take(bob, &second)?.is_none());
-    assert!(rt; matches!(bob.state(), State::Synchronized));
-    assert_holds(rt, bob, &Text::of(alloc, "abcz")?, &[(1, 3), (2, 1)], 5)
+    let second = entry(4, 1, 4, Deed::Edit(bc_moved));
+    assert!(rt; take(&mut ann, &second)?.is_none());
+    for told in [by_bob, first, second] {
+        assert!(rt; take(&mut bob, &told)?.is_none());
+    }
+    for client in [&ann, &bob] {
+        assert!(rt; matches!(client.state(), State::Synchronized));
+        assert_holds(&rt, client, &abcz, &marks, 5)?;
+    }
+    assert!(rt; ann.doc().same(bob.doc()));
+    Ok(())
 }
 
 #[test]
