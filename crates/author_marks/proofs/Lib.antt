@@ -1,3 +1,6 @@
-pub mod RoomOf
-pub mod WithLast
+pub mod AreTidy
+pub mod JoinGain
+pub mod JoinedRuns
+pub mod LastRun
 pub mod RunsOf
+pub mod WrittenMarks

@@ -1,6 +1,9 @@
 -- Who put in the characters of a text.
-use Rattle.std.specs.Prelude.{ℕ, ◌+◌, ◌-◌, ◌*◌, List}
+use Rattle.std.specs.Prelude.{◌≡◌, ℕ, ◌<◌, ◌^◌, List, length}
 use Rattle.ot_text.specs.Ready.{Room}
+use Rattle.gap_buffer.specs.Gapped.{Gapped, whole_list}
+use Rattle.author_marks.specs.declared.run.Run.{Run}
+use Rattle.author_marks.specs.GapRuns.{AreTidy, written_marks}
 
 -- the performer's number of each character, and the room for what the next operation puts in without memory
 pub record Authorship : Type 0 where
@@ -11,7 +14,10 @@ pub record Authorship : Type 0 where
 abbrev pub mark_by : ℕ → ℕ → ℕ
 mark_by who c = who
 
--- the room in a list of this capacity for what is put into one of this length: for as many characters as fit behind that, and
--- for two runs with each of them, and one; a list that is longer than the capacity has none
-abbrev pub room_of : ℕ → ℕ → Room
-room_of capacity length = record { characters = capacity - length; runs = 1 + 2 * capacity - 2 * length }
+-- so many marks stand in front of the gap and so many in all, fewer than 2^61, and the runs on either side of the gap are tidy
+pub record AreCounted (runs : Gapped Run) (before count : ℕ) : Type 0 where
+  pub before_right : before ≡ length (written_marks runs.front)
+  pub count_right : count ≡ length (written_marks (whole_list runs))
+  pub short : count < 2 ^ 61
+  pub front_tidy : AreTidy runs.front
+  pub behind_tidy : AreTidy runs.behind

@@ -1,3 +1,3 @@
 pub mod Authorship
-pub mod RunEnds
+pub mod GapRuns
 pub mod Runs

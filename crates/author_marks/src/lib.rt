@@ -4,13 +4,14 @@
 //! `ready`, the room for what the next operation puts in without memory.
 #![tactic(auto)]
 
+mod edits;
+mod joined;
 mod laws;
 mod marks;
 mod run;
+mod seek;
+mod walk;
 
 pub use laws::runs_law;
 pub use marks::Marks;
 pub use run::Run;
-
-#[cfg(test)]
-mod tests;

@@ -1,4 +1,4 @@
-//! The list of marks, one for each character.
+//! The marks of a text, one for each character.
 ghost use Rattle.std.specs.Prelude.{◌≡◌, ◌≤◌, ◌<◌, ◌^◌, ◌↔◌, [], IsTrue, IsOk, IfOk, OnOk, OnErr, length, map};
 ghost use Rattle.ot_text.specs.Change.{base, effect};
 ghost use Rattle.ot_text.specs.Marked.{runs_of};
@@ -7,43 +7,41 @@ ghost use Rattle.author_marks.specs.Authorship.{mark_by};
 ghost use Rattle.author_marks.specs.Runs.{run_of};
 
 use crate::Run;
-use crate::run::push_mark;
-use ot_text::{NewElement, Op, rewrite};
+use crate::joined::{joined_runs, same_runs};
+use crate::walk::apply_parts;
+use gap_buffer::GapBuffer;
+use ot_text::Op;
 use std::alloc::{AllocError, Global};
 use std::marker::Model;
-use std::mem::swap;
+
+// How many characters a text has at most.
+pub(crate) const MOST_CHARACTERS: u64 = (1 << 61) - 1;
+
+// What stands in room that was never used.
+const FILLER: Run = Run { who: 0, count: 0 };
 
 /// The number of the performer who put it in, for each character of a text.
 #[derive(Debug, Drop)]
 pub struct Marks {
-    // The marks, in the order of the characters.
-    marks: Vec<u32>,
-    // Takes the marks that the next operation makes, in the room that was made for them.
-    spare: Vec<u32>,
-}
-
-// A performer, whose number marks each new character.
-#[derive(Clone, Copy)]
-struct By {
-    // The performer's number.
-    who: u32,
-}
-
-impl NewElement<u32> for By {
-    ghost element_of = { λ by. mark_by by.who };
-
-    fn make(&self, _character: char) -> u32 {
-        self.who
-    }
+    // The runs of marks, in order. A run in which the gap stands is two of them, one on either side of it.
+    runs: GapBuffer<Run>,
+    // How many marks stand in front of the gap, and how many in all.
+    before: u64,
+    count: u64,
 }
 
 impl Model for Marks {
-    ghost use Rattle.std.specs.Prelude.{length, vec_capacity};
-    ghost use Rattle.author_marks.specs.Authorship.{Authorship, room_of};
+    ghost use Rattle.std.specs.Prelude.{◌-◌};
+    ghost use Rattle.gap_buffer.specs.Gapped.{whole_list};
+    ghost use Rattle.author_marks.specs.declared.marks.TheConstants.{MOST_CHARACTERS};
+    ghost use Rattle.author_marks.specs.GapRuns.{written_marks};
+    ghost use Rattle.author_marks.specs.Authorship.{Authorship, AreCounted};
 
     ghost Value = { Authorship };
 
-    ghost view = { λ m. record { marks = m.marks.items; ready = room_of (vec_capacity m.spare) (length m.marks.items) } };
+    ghost view = { λ m. record { marks = written_marks (whole_list m.runs); ready = record { characters = MOST_CHARACTERS - m.count; runs = m.runs.spare } } };
+
+    ghost invariant = { λ m. AreCounted m.runs m.before m.count };
 }
 
 impl Marks {
@@ -52,8 +50,9 @@ impl Marks {
         ensures { result.marks ≡ [] }
     {
         Marks {
-            marks: Vec::new(alloc),
-            spare: Vec::new(alloc),
+            runs: GapBuffer::new(alloc),
+            before: 0,
+            count: 0,
         }
     }
 
@@ -62,14 +61,14 @@ impl Marks {
         ensures value { result ≡ length self.now.marks }
         ensures short { result < 2 ^ 61 }
     {
-        self.marks.as_slice().len() as u64
+        self.count
     }
 
     /// Whether no character has a mark.
     pub fn is_empty(&self) -> bool
         ensures { IsTrue result ↔ (self.now.marks ≡ []) }
     {
-        self.marks.is_empty()
+        self.len() == 0
     }
 
     /// Makes the marks ready for the operation, which `apply` then takes without memory. At `Err` they are as they were.
@@ -83,9 +82,12 @@ impl Marks {
         ensures succeeds { IsReady op.now self.old.ready → IsOk result }
         ensures err { OnErr result (self.new ≡ self.old) }
     {
-        self.spare.clear();
-        self.spare
-            .reserve(self.marks.len() + op.inserted() as usize)
+        // Runs take little memory, but the text that they are of can't have more characters.
+        if op.inserted() > MOST_CHARACTERS - self.count {
+            return Err(AllocError);
+        }
+        self.runs
+            .reserve(1 + 2 * op.insert_count() as usize, FILLER)
     }
 
     /// Changes the marks as the operation by this performer changes the text: its new characters are marked with its number.
@@ -94,30 +96,26 @@ impl Marks {
         requires ready { IsReady op.now self.old.ready }
         ensures { self.new.marks ≡ effect (mark_by who) op.now self.old.marks }
     {
-        rewrite(&mut self.spare, &self.marks, op, &By { who });
-        swap(&mut self.marks, &mut self.spare);
+        self.before = apply_parts(&mut self.runs, self.before, op, who);
+        self.count = op.target();
     }
 
     /// The runs of neighbours of one number, in order.
     pub fn runs(&self) -> Result<Vec<Run>, AllocError>
         ensures { IfOk result (λ runs. runs.items ≡ map run_of (runs_of self.now.marks)) }
     {
-        let mut runs = Vec::new(*self.marks.allocator());
-        for who in &self.marks {
-            push_mark(&mut runs, *who)?;
-        }
-        Ok(runs)
+        joined_runs(&self.runs)
     }
 
     /// Marks of the same characters.
     pub fn try_clone(&self) -> Result<Marks, AllocError>
         ensures { IfOk result (λ copy. copy.marks ≡ self.now.marks) }
     {
-        let alloc = *self.marks.allocator();
-        let marks = Vec::from_slice(alloc, &self.marks)?;
+        let runs = self.runs.try_clone()?;
         Ok(Marks {
-            marks,
-            spare: Vec::new(alloc),
+            runs,
+            before: self.before,
+            count: self.count,
         })
     }
 
@@ -125,6 +123,6 @@ impl Marks {
     pub fn same(&self, other: &Marks) -> bool
         ensures { IsTrue result ↔ (self.now.marks ≡ other.now.marks) }
     {
-        self.marks.as_slice() == other.marks.as_slice()
+        same_runs(&self.runs, &other.runs)
     }
 }

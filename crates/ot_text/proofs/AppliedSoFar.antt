@@ -27,7 +27,8 @@ pub record IsAppliedSoFar {X : Type 0} (new : ℕ → X) (parts : List Part) (it
   pub fits : at + base (norm (drop i parts)) ≡ length items
   pub whole : made ++ effect new (norm (drop i parts)) (drop at items) ≡ effect new (norm parts) items
 
-norm-drop : (parts : List Part) (i : ℕ) (part : Part) → i < length parts → part ≡ get_or parts i part
+-- the operation of a part and of those behind it
+pub norm-drop : (parts : List Part) (i : ℕ) (part : Part) → i < length parts → part ≡ get_or parts i part
     → norm (drop i parts) ≡ part_then part (norm (drop (i + 1) parts))
 norm-drop parts i part within is = ap norm (drop_more parts i part within ∙ ap (λ p. p ∷ drop (i + 1) parts) (sym is))
 

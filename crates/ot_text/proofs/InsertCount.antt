@@ -1,13 +1,13 @@
 -- An operation puts in no more texts than characters.
 use Rattle.std.proofs.Common.{◌≢◌, ℕ, ◌≤◌, List, [], ◌∷◌, length, refl, ap, arith}
 use Rattle.std.proofs.lemmas.List.Sums.{sum_by-cons}
-use Rattle.std.specs.Prelude.{count_by, if◌then◌else◌}
+use Rattle.std.specs.Prelude.{count_by}
 use Rattle.ot_text.specs.declared.part.Part.{Part}
 use Rattle.ot_text.specs.declared.part.Part.TheVariants.{Retain, Insert, Delete}
 use Rattle.ot_text.specs.Change.{Change, inserted}
 use Rattle.ot_text.specs.Ends.{is_insert}
 use Rattle.ot_text.specs.Parts.{parts_of, IsProper, IsNormal, part_inserted, inserted_of}
-use Rattle.ot_text.specs.Ready.{insert_count}
+use Rattle.ot_text.specs.Ready.{insert_count, part_insert_count}
 use Rattle.ot_text.proofs.PartsOf.{normal-parts_of, norm-parts_of}
 use Rattle.ot_text.proofs.Norm.{inserted-norm}
 
@@ -15,7 +15,7 @@ some : (t : List ℕ) → t ≢ [] → 1 ≤ length t
 some [] h = absurd (h refl)
 some (c ∷ t) h = omega arith
 
-one_text : (part : Part) → IsProper part → (if is_insert part then 1 else 0) ≤ part_inserted part
+one_text : (part : Part) → IsProper part → part_insert_count part ≤ part_inserted part
 one_text (Retain k) h = omega arith
 one_text (Insert t) h = some t h
 one_text (Delete k) h = omega arith
@@ -25,7 +25,7 @@ texts_le [] h = omega arith
 texts_le (part ∷ parts) h =
     omega (
       arith,
-      sum_by-cons (λ (p : Part). if is_insert p then 1 else 0) part parts,
+      sum_by-cons (λ (p : Part). part_insert_count p) part parts,
       sum_by-cons part_inserted part parts,
       one_text part h.0,
       texts_le parts h.2,

@@ -1,5 +1,6 @@
 pub mod EffectOf
 pub mod AppliedSoFar
+pub mod AppliedInPlace
 pub mod PartsOf
 pub mod AllScalars
 pub mod LastPart
@@ -12,7 +13,6 @@ pub mod IsKept
 pub mod KeepsPlace
 pub mod IsNormal
 pub mod InsertCount
-pub mod PieceOf
 pub mod SameOp
 pub mod Norm
 pub mod Then

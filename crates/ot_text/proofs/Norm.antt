@@ -9,12 +9,14 @@ use Rattle.ot_text.proofs.AppliedSoFar.{base-part_then}
 use Rattle.ot_text.proofs.EffectOf.{effect-insert_then}
 use Rattle.ot_text.proofs.Then.{target-insert_then, target-retain_then, target-delete_then, inserted-insert_then, inserted-retain_then, inserted-delete_then}
 
-target-part_then : (part : Part) (c : Change) → target (part_then part c) ≡ part_target part + target c
+-- the target of an operation with one part in front
+pub target-part_then : (part : Part) (c : Change) → target (part_then part c) ≡ part_target part + target c
 target-part_then (Retain k) c = target-retain_then k c
 target-part_then (Insert t) c = target-insert_then t c
 target-part_then (Delete k) c = omega (arith, target-delete_then k c)
 
-inserted-part_then : (part : Part) (c : Change) → inserted (part_then part c) ≡ part_inserted part + inserted c
+-- the inserted characters of an operation with one part in front
+pub inserted-part_then : (part : Part) (c : Change) → inserted (part_then part c) ≡ part_inserted part + inserted c
 inserted-part_then (Retain k) c = omega (arith, inserted-retain_then k c)
 inserted-part_then (Insert t) c = inserted-insert_then t c
 inserted-part_then (Delete k) c = omega (arith, inserted-delete_then k c)

@@ -1,8 +1,13 @@
 -- What has to be ready for an operation, so that it takes no memory.
-use Rattle.std.specs.Prelude.{ℕ, ◌+◌, ◌*◌, ◌≤◌, count_by}
+use Rattle.std.specs.Prelude.{ℕ, ◌+◌, ◌*◌, ◌≤◌, count_by, if◌then◌else◌}
+use Rattle.ot_text.specs.declared.part.Part.{Part}
 use Rattle.ot_text.specs.Change.{Change, inserted}
 use Rattle.ot_text.specs.Ends.{is_insert}
 use Rattle.ot_text.specs.Parts.{parts_of}
+
+-- how many texts the part puts in: one, if it is an insert
+abbrev pub part_insert_count : Part → ℕ
+part_insert_count part = if is_insert part then 1 else 0
 
 -- how many texts the operation puts in: its inserts
 abbrev pub insert_count : Change → ℕ

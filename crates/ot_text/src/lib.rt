@@ -15,7 +15,6 @@ mod laws;
 mod op;
 mod part;
 mod parts;
-mod rewriting;
 mod text;
 
 pub use builder::OpBuilder;
@@ -26,8 +25,4 @@ pub use laws::{
 };
 pub use op::{MAX_LEN, Op};
 pub use part::Part;
-pub use rewriting::{NewElement, rewrite};
 pub use text::Text;
-
-#[cfg(test)]
-mod tests;

@@ -25,8 +25,3 @@ pub use laws::{
     places_law, transform_gaps_law,
 };
 pub use pair::{transform, try_transform};
-
-#[cfg(test)]
-mod plain;
-#[cfg(test)]
-mod tests;

@@ -6,3 +6,4 @@ pub mod LinePlaces
 pub mod LiesOn
 pub mod IsBlockRound
 pub mod ArePaired
+pub mod IsBlank

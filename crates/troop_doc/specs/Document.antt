@@ -6,8 +6,3 @@ use Rattle.ot_text.specs.Ready.{Room}
 pub record Document : Type 0 where
   pub pairs : List (ℕ × ℕ)
   pub ready : Room
-
--- characters alone, and the room for what the next operation puts in without memory
-pub record Characters : Type 0 where
-  pub chars : List ℕ
-  pub ready : Room

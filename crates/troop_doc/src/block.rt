@@ -1,7 +1,9 @@
 //! The block round a place of a text.
-ghost use Rattle.std.specs.Prelude.{◌≡◌, ◌≤◌, length, take, drop, slice_range, option_map};
+ghost use Rattle.std.specs.Prelude.{◌≡◌, ◌≤◌, [], ◌∷◌, IfSome, length, take, drop, slice_range, option_map};
 ghost use Rattle.troop_doc.specs.Blocks.{block_round, is_blank};
 ghost use Rattle.troop_doc.specs.BlockEnds.{IsLineStart, IsLineEnd, LacksLineFeeds, last_lines, first_lines};
+
+use gap_text::GapText;
 
 // What ends a line.
 pub(crate) const LINE_FEED: char = '\n';
@@ -12,61 +14,62 @@ pub(crate) const TAB: char = '\t';
 
 pub(crate) const CARRIAGE_RETURN: char = '\r';
 
-// The characters of the block, if the place's line isn't blank.
-pub(crate) fn block_round(chars: &[char], place: usize) -> Option<&[char]>
-    requires { place ≤ length chars.now }
-    ensures { option_map (λ block. block.now) result ≡ block_round chars.now place }
+// From which place to which the block reaches, if the place's line isn't blank.
+pub(crate) fn block_round(text: &GapText, place: usize) -> Option<(usize, usize)>
+    requires { place ≤ length text.now.chars }
+    ensures within { IfSome result (λ block. (block.0 ≤ block.1) × (block.1 ≤ length text.now.chars)) }
+    ensures value { option_map (λ block. slice_range text.now.chars block.0 block.1) result ≡ block_round text.now.chars place }
 {
-    let start = line_start(chars, place);
-    let end = line_end(chars, place);
-    if is_blank(&chars[start..end]) {
+    let start = line_start(text, place);
+    let end = line_end(text, place);
+    if is_blank(text, start, end) {
         return None;
     }
-    let start = block_start(chars, start);
-    let end = block_end(chars, end);
-    Some(&chars[start..end])
+    let start = block_start(text, start);
+    let end = block_end(text, end);
+    Some((start, end))
 }
 
 // The start of the line that the place lies on.
-fn line_start(chars: &[char], place: usize) -> usize
-    requires { place ≤ length chars.now }
+fn line_start(text: &GapText, place: usize) -> usize
+    requires { place ≤ length text.now.chars }
     ensures within { result ≤ place }
-    ensures start { IsLineStart chars.now result }
-    ensures same_line { LacksLineFeeds chars.now result place }
+    ensures start { IsLineStart text.now.chars result }
+    ensures same_line { LacksLineFeeds text.now.chars result place }
 {
     let mut start = place;
-    while start > 0 && chars[start - 1] != LINE_FEED {
+    while start > 0 && text.at(start - 1) != LINE_FEED {
         start -= 1;
     }
     start
 }
 
 // The end of the line that the place lies on.
-fn line_end(chars: &[char], place: usize) -> usize
-    requires { place ≤ length chars.now }
-    ensures within { result ≤ length chars.now }
-    ensures end { IsLineEnd chars.now result }
+fn line_end(text: &GapText, place: usize) -> usize
+    requires { place ≤ length text.now.chars }
+    ensures within { result ≤ length text.now.chars }
+    ensures end { IsLineEnd text.now.chars result }
     ensures behind { place ≤ result }
-    ensures same_line { LacksLineFeeds chars.now place result }
+    ensures same_line { LacksLineFeeds text.now.chars place result }
 {
     let mut end = place;
-    while end < chars.len() && chars[end] != LINE_FEED {
+    while end < text.len() as usize && text.at(end) != LINE_FEED {
         end += 1;
     }
     end
 }
 
 // The start of the first of the lines above this start of a line, up to a blank one.
-fn block_start(chars: &[char], line: usize) -> usize
-    requires within { line ≤ length chars.now }
-    requires start { IsLineStart chars.now line }
+fn block_start(text: &GapText, line: usize) -> usize
+    requires within { line ≤ length text.now.chars }
+    requires start { IsLineStart text.now.chars line }
     ensures within { result ≤ line }
-    ensures lines { slice_range chars.now result line ≡ last_lines (take line chars.now) }
+    ensures lines { slice_range text.now.chars result line ≡ last_lines (take line text.now.chars) }
 {
     let mut start = line;
     while start > 0 {
-        let above = line_start(chars, start - 1);
-        if is_blank(&chars[above..start - 1]) {
+        let above = line_start(text, start - 1);
+        if is_blank(text, above, start - 1) {
             return start;
         }
         start = above;
@@ -75,17 +78,17 @@ fn block_start(chars: &[char], line: usize) -> usize
 }
 
 // The end of the last of the lines below this end of a line, up to a blank one.
-fn block_end(chars: &[char], line: usize) -> usize
-    requires within { line ≤ length chars.now }
-    requires end { IsLineEnd chars.now line }
-    ensures within { result ≤ length chars.now }
+fn block_end(text: &GapText, line: usize) -> usize
+    requires within { line ≤ length text.now.chars }
+    requires end { IsLineEnd text.now.chars line }
+    ensures within { result ≤ length text.now.chars }
     ensures behind { line ≤ result }
-    ensures lines { slice_range chars.now line result ≡ first_lines (drop line chars.now) }
+    ensures lines { slice_range text.now.chars line result ≡ first_lines (drop line text.now.chars) }
 {
     let mut end = line;
-    while end < chars.len() {
-        let below = line_end(chars, end + 1);
-        if is_blank(&chars[end + 1..below]) {
+    while end < text.len() as usize {
+        let below = line_end(text, end + 1);
+        if is_blank(text, end + 1, below) {
             return end;
         }
         end = below;
@@ -93,10 +96,23 @@ fn block_end(chars: &[char], line: usize) -> usize
     end
 }
 
-// Whether each character is a space, a tab or a carriage return.
-fn is_blank(line: &[char]) -> bool
-    ensures { result ≡ is_blank line.now }
+// Whether each character from the one place to the other is a space, a tab or a carriage return.
+fn is_blank(text: &GapText, start: usize, end: usize) -> bool
+    requires order { start ≤ end }
+    requires within { end ≤ length text.now.chars }
+    ensures { result ≡ is_blank (slice_range text.now.chars start end) }
 {
-    line.iter()
-        .all(|c| *c == SPACE || *c == TAB || *c == CARRIAGE_RETURN)
+    for place in start..end {
+        if !is_blank_char(text.at(place)) {
+            return false;
+        }
+    }
+    true
+}
+
+// Whether the character is a space, a tab or a carriage return.
+fn is_blank_char(c: char) -> bool
+    ensures { result ≡ is_blank (c ∷ []) }
+{
+    c == SPACE || c == TAB || c == CARRIAGE_RETURN
 }

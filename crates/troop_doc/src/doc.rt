@@ -7,8 +7,8 @@ ghost use Rattle.author_marks.specs.Runs.{run_of};
 ghost use Rattle.troop_doc.specs.Blocks.{block_round};
 
 use crate::block::block_round;
-use crate::chars::Chars;
 use author_marks::{Marks, Run};
+use gap_text::GapText;
 use ot_text::{Op, Text};
 use std::alloc::{AllocError, Global};
 use std::marker::Model;
@@ -17,7 +17,7 @@ use std::marker::Model;
 #[derive(Debug, Drop)]
 pub struct Doc {
     // The characters, in order.
-    chars: Chars,
+    chars: GapText,
     // The number of each one's performer.
     marks: Marks,
     // So many characters, in so many runs, may be put into both without memory.
@@ -43,7 +43,7 @@ impl Doc {
         ensures { result.pairs ≡ [] }
     {
         Doc {
-            chars: Chars::new(alloc),
+            chars: GapText::new(alloc),
             marks: Marks::new(alloc),
             characters: 0,
             runs: 0,
@@ -76,7 +76,7 @@ impl Doc {
         ensures succeeds { IsReady op.now self.old.ready → IsOk result }
         ensures err { OnErr result (self.new ≡ self.old) }
     {
-        self.chars.reserve_for(op)?;
+        self.chars.reserve(op.inserted())?;
         self.marks.reserve_for(op)?;
         self.characters = self.characters.max(op.inserted());
         self.runs = self.runs.max(1 + 2 * op.insert_count());
@@ -99,7 +99,7 @@ impl Doc {
     pub fn text(&self) -> Result<Text, AllocError>
         ensures { IfOk result (λ text. text ≡ text_of self.now.pairs) }
     {
-        self.chars.text()
+        self.chars.to_text()
     }
 
     /// The runs of neighbours by one performer, in order.
@@ -120,8 +120,8 @@ impl Doc {
         if place > self.len() {
             return Ok(None);
         }
-        match block_round(self.chars.as_slice(), place as usize) {
-            Some(block) => Ok(Some(Text::from_chars(self.chars.allocator(), block)?)),
+        match block_round(&self.chars, place as usize) {
+            Some((start, end)) => Ok(Some(self.chars.slice(start as u64, end as u64)?)),
             None => Ok(None),
         }
     }

@@ -5,12 +5,8 @@
 #![tactic(auto)]
 
 mod block;
-mod chars;
 mod doc;
 mod laws;
 
 pub use doc::Doc;
 pub use laws::{block_law, lines_law};
-
-#[cfg(test)]
-mod tests;

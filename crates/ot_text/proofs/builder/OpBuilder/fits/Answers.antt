@@ -5,7 +5,7 @@ use Rattle.ot_text.proofs.builder.OpBuilder.fits.Goals as goal
 
 pub returns-then-passed-base : goal.returns-then-passed-base
 returns-then-passed-base c = (
-  λ yes. short_with_part c.args.self.now c.args.part.now (omega (arith, c.base.ensures.short)) (omega (arith, leb-true _ _ yes, c.target.ensures.short)),
+  λ yes. short_with_part c.args.self.now c.args.part.now (omega (arith, c.base.ensures.short)) (omega (arith, leb-true _ _ yes, c.target-then-passed-base.ensures.short)),
   λ short. le-leb _ _ (omega (arith, (room_with_part c.args.self.now c.args.part.now short).1)),
 )
 

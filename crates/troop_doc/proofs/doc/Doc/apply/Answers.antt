@@ -16,10 +16,10 @@ pub invariant_of-self : goal.invariant_of-self
 invariant_of-self c =
     let base_is = rw (← c.self.view_is) at c.requires.base in
     record {
-      even = rw (c.apply.ensures, c.apply-2.ensures) (length-effects c.self.invariant c.args.who c.args.op.now (base_is ∙ length-pairs c.self.invariant));
+      even = rw (c.apply.ensures.chars, c.apply-2.ensures) (length-effects c.self.invariant c.args.who c.args.op.now (base_is ∙ length-pairs c.self.invariant));
       chars_ready = omega arith;
       marks_ready = omega arith;
     }
 
 pub returns : goal.returns
-returns c = rw (c.apply.ensures, c.apply-2.ensures, ← c.self.view_is) (effect-pairs c.self.invariant c.args.who c.args.op.now)
+returns c = rw (c.apply.ensures.chars, c.apply-2.ensures, ← c.self.view_is) (effect-pairs c.self.invariant c.args.who c.args.op.now)
