@@ -11,8 +11,6 @@ mod laws;
 mod note;
 mod reply;
 mod row;
-#[cfg(test)]
-mod tests;
 
 pub use block::Block;
 pub use call::{Call, Lang, Request};

@@ -1,0 +1,11 @@
+pub mod Begins
+pub mod AllOf
+pub mod IsIn
+pub mod Updated
+pub mod RowsOf
+pub mod Tickets
+pub mod Book
+pub mod JoinedView
+pub mod KeepsTurns
+pub mod WithOthers
+pub mod AccountFor
