@@ -7,8 +7,6 @@ mod feeding;
 mod give;
 mod journal;
 mod opening;
-#[cfg(test)]
-mod tests;
 
 pub use driver::Driver;
 pub use fed::Fed;

@@ -4,8 +4,6 @@
 mod command;
 mod laws;
 mod line;
-#[cfg(test)]
-mod tests;
 mod wraps;
 
 pub use command::first_command;

@@ -8,8 +8,6 @@ mod child;
 mod hatch;
 mod script_child;
 mod script_hatch;
-#[cfg(test)]
-mod tests;
 
 pub use child::{Child, Closing};
 pub use hatch::{Hatch, Started};

@@ -13,8 +13,6 @@ mod fill;
 mod sink;
 mod source;
 mod status;
-#[cfg(test)]
-mod tests;
 
 pub use adapters::{StdSink, StdSource};
 pub use bytes_sink::BytesSink;

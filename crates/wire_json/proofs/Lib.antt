@@ -1,0 +1,4 @@
+pub mod MarkedOf
+pub mod RunsOfList
+pub mod PartsOfList
+pub mod ValueOf

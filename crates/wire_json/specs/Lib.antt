@@ -1,0 +1,11 @@
+pub mod Values
+pub mod Operations
+pub mod Fields
+pub mod Reads
+pub mod Requests
+pub mod Replies
+pub mod Entries
+pub mod Steps
+pub mod Commands
+pub mod Snapshots
+pub mod Building

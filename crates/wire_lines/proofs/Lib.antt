@@ -1,0 +1,9 @@
+pub mod LinesArePieces
+mod HasNoFeed
+mod IsLong
+mod IsSound
+mod Cuts
+mod CountsFill
+mod InReading
+pub mod IsNextLine
+pub mod HasRead

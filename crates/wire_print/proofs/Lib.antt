@@ -1,0 +1,11 @@
+pub mod IsSound
+pub mod CompactText
+pub mod PrintedText
+pub mod ItemsOf
+pub mod WithNum
+pub mod OpOf
+pub mod RequestOfLine
+pub mod ReplyOfLine
+pub mod EntryOfLine
+pub mod SnapshotOfLine
+pub mod HasFloat
