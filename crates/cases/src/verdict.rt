@@ -6,7 +6,7 @@ use troop_main::replay;
 use troop_ports::{BytesSink, BytesSource};
 
 /// How many bytes a run may print on each of its streams.
-const ROOM: u64 = 1_000_000;
+const ROOM: u64 = 2_000_000;
 
 /// Whether a case holds, and what is told of it.
 #[derive(Debug, Drop)]

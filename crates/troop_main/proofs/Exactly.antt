@@ -1,77 +1,74 @@
 -- The statuses are exact.
-use Rattle.std.proofs.Common.{◌≡◌, ◌≢◌, ℕ, ◌<◌, ◌≤◌, List, [], ◌++◌, length, sym, ◌∙◌, ap, subst, arith, length-append}
-use Rattle.std.specs.Prelude.{Option, Some, None, IfSome, ◌↔◌, unwrap_or}
-use Rattle.std.proofs.lemmas.List.{append-nil}
-use Rattle.troop_ports.specs.Bytes.{in_front}
+use Rattle.std.proofs.Common.{◌≡◌, ◌≢◌, ℕ, List, [], ◌++◌, Some, None, refl, sym, ap, ◌∙◌, subst, arith}
+use Rattle.std.specs.Prelude.{IfSome}
+use Rattle.wire_lines.specs.Lines.{lines}
 use Rattle.troop_main.specs.declared.outcome.Outcome.{Outcome}
 use Rattle.troop_main.specs.declared.outcome.Outcome.TheVariants as outcome
-use Rattle.troop_main.specs.Lines.{lines}
-use Rattle.troop_main.specs.Play.{first_unbuilt}
-use Rattle.troop_main.specs.Input.{most_input}
-use Rattle.troop_main.specs.Ports.{Port, IsFaulted, Gave, Reported}
-use Rattle.troop_main.specs.Runs.{IsUnbuiltAt, Says}
+use Rattle.std.proofs.lemmas.List.{append-nil}
+use Rattle.troop_main.specs.Steps.{shown_world}
+use Rattle.troop_main.specs.Script.{shown, world, output, stop_of, before_stop, shown_end, all_written, outcome_of}
+use Rattle.troop_main.specs.Runs.{Says, StopsBy, Replays, IsExact}
 use Rattle.troop_main.specs.Outcome.{code_of, error_line}
-use Rattle.troop_main.specs.Laws.{TooMuchExactly, UnbuiltExactly}
+use Rattle.troop_main.specs.Laws.{ReplaysExactly, FaultsExactly}
+use Rattle.troop_main.specs.Ports.{Port, IsCalm, IsFaulted, Took, Reported}
+use Rattle.troop_main.proofs.InPlay.{before_all}
+use Rattle.troop_ports.specs.Bytes.{at_end}
 
--- as many bytes were taken as are missing
-same_length : (bytes taken remaining : List ℕ) → Some (taken ++ remaining) ≡ in_front bytes (Some remaining) → length taken ≡ length bytes
-same_length bytes taken remaining given =
-    let same : length (taken ++ remaining) ≡ length (bytes ++ remaining) = ap (λ o. length (unwrap_or o remaining)) given in
-    omega (arith, same, length-append taken remaining, length-append bytes remaining)
+-- an outcome that the bytes lead to, with all that it writes
+abbrev IsEnd : ℕ → Outcome → List ℕ → Port → Type 0
+IsEnd limit o bytes out = (o ≡ outcome_of (stop_of limit (lines bytes))) × Took out (all_written limit (lines bytes))
 
-taken_length : (bytes taken remaining : List ℕ) (input : Port) → Gave input bytes → input.before ≡ Some (taken ++ remaining) → input.after ≡ Some remaining → length taken ≡ length bytes
-taken_length bytes taken remaining input given before after = same_length bytes taken remaining (sym before ∙ given ∙ ap (in_front bytes) after)
+done_written : (limit : ℕ) (script : List (List ℕ)) → stop_of limit script ≡ None → output script ≡ all_written limit script
+done_written limit script none = ap (λ l. shown l ++ shown_world (world script)) (sym (before_all limit 1 script none)) ∙ ap (λ s. shown (before_stop limit script) ++ shown_end s script) (sym none)
 
-too_much : (end : Outcome) (code : ℕ) (bytes taken : List ℕ) (input out : Port) → code ≡ code_of end → Says end bytes input out
-    → length taken ≡ length bytes → code ≢ 3 → (code ≡ 10) ↔ (most_input < length taken)
-too_much outcome.Done code bytes taken input out is says same found = (λ e. absurd (omega (arith, is, e)), λ long. absurd (omega (arith, says.0.0, same, long)))
-too_much outcome.Usage code bytes taken input out is says same found = absurd says
-too_much outcome.Memory code bytes taken input out is says same found = absurd (found is)
-too_much outcome.ReadFault code bytes taken input out is says same found = (λ e. absurd (omega (arith, is, e)), λ long. absurd (omega (arith, says.0, same, long)))
-too_much outcome.WriteFault code bytes taken input out is says same found = (λ e. absurd (omega (arith, is, e)), λ long. absurd (omega (arith, says.0.0, same, long)))
-too_much outcome.TooMuch code bytes taken input out is says same found = (λ _. omega (arith, says.0, same), λ _. is)
-too_much (outcome.Unbuilt n) code bytes taken input out is says same found = (λ e. absurd (omega (arith, is, e)), λ long. absurd (omega (arith, says.0.0, same, long)))
+stop_written : (limit : ℕ) (script : List (List ℕ)) (stop : Outcome) → stop_of limit script ≡ Some stop → shown (before_stop limit script) ≡ all_written limit script
+stop_written limit script stop is = sym (append-nil (shown (before_stop limit script))) ∙ ap (λ s. shown (before_stop limit script) ++ shown_end s script) (sym is)
 
--- status 10 is exact
-pub too_much_is_exact : TooMuchExactly
-too_much_is_exact code input out err run taken remaining before after found =
-    too_much run.outcome code run.bytes taken input out run.code_is run.says (taken_length run.bytes taken remaining input run.given before after) found
+by_stop : (limit : ℕ) (stop : Outcome) (bytes : List ℕ) (input out : Port) → input.before ≡ Some bytes → StopsBy limit stop input out → IsEnd limit stop bytes out
+by_stop limit stop bytes input out told (calm, quiet, says) =
+    let s : (stop_of limit (lines bytes) ≡ Some stop) × Took out (shown (before_stop limit (lines bytes))) = subst (λ b. IfSome b (λ all. (stop_of limit (lines all) ≡ Some stop) × Took out (shown (before_stop limit (lines all))))) told says in
+    (sym (ap outcome_of s.0), s.1 ∙ ap (at_end out.before) (stop_written limit (lines bytes) stop s.0))
 
--- at its end the input has given all
-whole : (bytes all : List ℕ) (after : Option (List ℕ)) → Some all ≡ in_front bytes after → IfSome after (λ remaining. remaining ≡ []) → all ≡ bytes
-whole bytes all None given ended = absurd (cc)
-whole bytes all (Some remaining) given ended =
-    let same : all ≡ bytes ++ remaining = ap (λ o. unwrap_or o all) given in same ∙ ap (λ l. bytes ++ l) ended ∙ append-nil bytes
+by_outcome : (limit : ℕ) (o : Outcome) (bytes : List ℕ) (input out : Port) → input.before ≡ Some bytes → (IsFaulted input → ⊥) → (IsFaulted out → ⊥) → (o ≡ outcome.Memory → ⊥) → Says limit o input out → IsEnd limit o bytes out
+by_outcome limit outcome.Done bytes input out told no_fault no_fault' found (calm, quiet, says) =
+    let s : (stop_of limit (lines bytes) ≡ None) × (input.after ≡ Some []) × Took out (output (lines bytes)) = subst (λ b. IfSome b (λ all. (stop_of limit (lines all) ≡ None) × (input.after ≡ Some []) × Took out (output (lines all)))) told says in
+    (sym (ap outcome_of s.0), s.2 ∙ ap (at_end out.before) (done_written limit (lines bytes) s.0))
+by_outcome limit outcome.Memory bytes input out told no_fault no_fault' found says = absurd (found refl)
+by_outcome limit outcome.ReadFault bytes input out told no_fault no_fault' found says = absurd (no_fault says.0)
+by_outcome limit outcome.Usage bytes input out told no_fault no_fault' found says = absurd says
+by_outcome limit outcome.WriteFault bytes input out told no_fault no_fault' found says = absurd (no_fault' says.1)
+by_outcome limit (outcome.BadLine n) bytes input out told no_fault no_fault' found says = by_stop limit (outcome.BadLine n) bytes input out told says
+by_outcome limit outcome.TooMuch bytes input out told no_fault no_fault' found says = by_stop limit outcome.TooMuch bytes input out told says
+by_outcome limit (outcome.Unbuilt n) bytes input out told no_fault no_fault' found says = by_stop limit (outcome.Unbuilt n) bytes input out told says
 
-none_is_some : (bytes : List ℕ) (n : ℕ) → first_unbuilt 1 (lines bytes) ≡ None → first_unbuilt 1 (lines bytes) ≡ Some n → ⊥
-none_is_some bytes n none some = let same : None ≡ Some n = sym none ∙ some in cc
+-- of a run that the table allows
+pub run_is_exact : (limit code : ℕ) (input out err : Port) → Replays limit code input out err → IsExact limit code input out err
+run_is_exact limit code input out err run bytes told no_fault no_fault' found =
+    let e = by_outcome limit run.outcome bytes input out told no_fault no_fault' (λ is. found (run.code_is ∙ ap code_of is)) run.says in
+    (run.code_is ∙ ap code_of e.0, subst (λ o. Reported err (error_line o)) e.0 run.reported, e.1)
 
-same_number : (bytes : List ℕ) (m n : ℕ) → first_unbuilt 1 (lines bytes) ≡ Some m → first_unbuilt 1 (lines bytes) ≡ Some n → m ≡ n
-same_number bytes m n is_m is_n = let same : Some m ≡ Some n = sym is_m ∙ is_n in cc
+-- the law of it
+pub replays_are_exact : ReplaysExactly
+replays_are_exact = run_is_exact
 
--- no more bytes were given than there were
-few : (bytes all : List ℕ) (after : Option (List ℕ)) → Some all ≡ in_front bytes after → length bytes ≤ length all
-few bytes all None given = absurd (cc)
-few bytes all (Some remaining) given =
-    let same : length all ≡ length (bytes ++ remaining) = ap (λ o. length (unwrap_or o all)) given in omega (arith, same, length-append bytes remaining)
+-- ---- Faults.
 
-unbuilt : (end : Outcome) (code : ℕ) (bytes all : List ℕ) (input out err : Port) → code ≡ code_of end → Says end bytes input out
-    → Some all ≡ in_front bytes input.after → Reported err (error_line end) → (IsFaulted input → ⊥) → code ≢ 3
-    → (code ≡ 12 → (n : ℕ) × IsUnbuiltAt all n) × ((n : ℕ) → IsUnbuiltAt all n → (code ≡ 12) × Reported err (error_line (outcome.Unbuilt n)))
-unbuilt outcome.Done code bytes all input out err is says given reported calm found =
-    (λ e. absurd (omega (arith, is, e)), λ n at. absurd (none_is_some all n (subst (λ b. first_unbuilt 1 (lines b) ≡ None) (sym (whole bytes all input.after given says.1)) says.0.1) at.1))
-unbuilt outcome.Usage code bytes all input out err is says given reported calm found = absurd says
-unbuilt outcome.Memory code bytes all input out err is says given reported calm found = absurd (found is)
-unbuilt outcome.ReadFault code bytes all input out err is says given reported calm found = absurd (calm says.1)
-unbuilt outcome.WriteFault code bytes all input out err is says given reported calm found =
-    (λ e. absurd (omega (arith, is, e)), λ n at. absurd (none_is_some all n (subst (λ b. first_unbuilt 1 (lines b) ≡ None) (sym (whole bytes all input.after given says.1)) says.0.1) at.1))
-unbuilt outcome.TooMuch code bytes all input out err is says given reported calm found =
-    (λ e. absurd (omega (arith, is, e)), λ n at. absurd (omega (arith, at.0, says.0, few bytes all input.after given)))
-unbuilt (outcome.Unbuilt m) code bytes all input out err is says given reported calm found =
-    let at_m : IsUnbuiltAt all m = subst (λ b. IsUnbuiltAt b m) (sym (whole bytes all input.after given says.1)) says.0 in
-    (λ _. (m, at_m), λ n at_n. (is, subst (λ k. Reported err (error_line (outcome.Unbuilt k))) (same_number all m n at_m.1 at_n.1) reported))
+abbrev FaultsAre : ℕ → Port → Port → Type 0
+FaultsAre code input out = (code ≡ 4 → IsFaulted input × IsCalm out) × (code ≡ 5 → IsCalm input × IsFaulted out) × (code ≢ 4 → code ≢ 5 → IsCalm input × IsCalm out)
 
--- status 12 is exact
-pub unbuilt_is_exact : UnbuiltExactly
-unbuilt_is_exact code input out err run all before calm found =
-    unbuilt run.outcome code run.bytes all input out err run.code_is run.says (sym before ∙ run.given) run.reported calm found
+calm_faults : (code n : ℕ) (input out : Port) → code ≡ n → (n ≡ 4 → ⊥) → (n ≡ 5 → ⊥) → IsCalm input → IsCalm out → FaultsAre code input out
+calm_faults code n input out is not_4 not_5 calm quiet = (λ e. absurd (not_4 (sym is ∙ e)), λ e. absurd (not_5 (sym is ∙ e)), λ a b. (calm, quiet))
+
+faults_by : (limit : ℕ) (o : Outcome) (code : ℕ) (input out : Port) → code ≡ code_of o → Says limit o input out → FaultsAre code input out
+faults_by limit outcome.Done code input out is says = calm_faults code 0 input out is (λ e. omega (arith, e)) (λ e. omega (arith, e)) says.0 says.1
+faults_by limit outcome.Usage code input out is says = absurd says
+faults_by limit outcome.Memory code input out is says = calm_faults code 3 input out is (λ e. omega (arith, e)) (λ e. omega (arith, e)) says.0 says.1
+faults_by limit outcome.ReadFault code input out is says = (λ e. (says.0, says.1), λ e. absurd (omega (arith, is, e)), λ a b. absurd (a is))
+faults_by limit outcome.WriteFault code input out is says = (λ e. absurd (omega (arith, is, e)), λ e. (says.0, says.1), λ a b. absurd (b is))
+faults_by limit (outcome.BadLine n) code input out is says = calm_faults code 7 input out is (λ e. omega (arith, e)) (λ e. omega (arith, e)) says.0 says.1
+faults_by limit outcome.TooMuch code input out is says = calm_faults code 10 input out is (λ e. omega (arith, e)) (λ e. omega (arith, e)) says.0 says.1
+faults_by limit (outcome.Unbuilt n) code input out is says = calm_faults code 12 input out is (λ e. omega (arith, e)) (λ e. omega (arith, e)) says.0 says.1
+
+-- each count rose at its own status
+pub faults_are_exact : FaultsExactly
+faults_are_exact limit code input out err run = faults_by limit run.outcome code input out run.code_is run.says

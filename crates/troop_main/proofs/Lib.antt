@@ -1,10 +1,4 @@
-pub mod Texts
-pub mod PartLists
-pub mod LineSplits
-pub mod LinePieces
-pub mod Reports
-pub mod Fronts
-pub mod Printing
-pub mod Exactly
-pub mod Steps
-pub mod FirstLines
+mod Reports
+mod InPlay
+mod Exactly
+mod FirstStop

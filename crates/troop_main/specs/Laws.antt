@@ -1,41 +1,74 @@
--- Laws: which line is the first that isn't built, and that the statuses of `replay` are exact.
-use Rattle.std.specs.Prelude.{◌≡◌, ◌≢◌, ℕ, ◌+◌, List, ◌∷◌, ◌++◌, length, All, Some, None, ◌↔◌}
-use Rattle.troop_main.specs.Lines.{lines}
-use Rattle.troop_main.specs.Play.{output, steps_of, first_unbuilt, IsBuiltLine, IsUnbuiltLine}
-use Rattle.troop_main.specs.Ports.{Port, IsCalm, IsFaulted, Took}
-use Rattle.troop_main.specs.Runs.{IsBuilt, Replays, IsTooMuchExactly, IsUnbuiltExactly}
+-- Laws: which line is the first that stops a script, and that the statuses of `replay` are exact.
+use Rattle.std.specs.Prelude.{◌≡◌, ◌≢◌, ℕ, ◌+◌, ◌<◌, ◌≤◌, List, [], ◌∷◌, ◌++◌, length, All, Some, None, true, false, ◌⊎◌}
+use Rattle.wire_lines.specs.Lines.{with_feeds}
+use Rattle.troop_main.specs.declared.meaning.Meaning.{Meaning}
+use Rattle.troop_main.specs.declared.meaning.Meaning.TheVariants as meaning
+use Rattle.troop_main.specs.declared.outcome.Outcome.{Outcome}
+use Rattle.troop_main.specs.declared.outcome.Outcome.TheVariants as outcome
+use Rattle.troop_main.specs.Steps.{is_built}
+use Rattle.troop_main.specs.Script.{most_line, meaning_of, stop_of, before_stop}
+use Rattle.troop_main.specs.Ports.{Port, IsCalm, IsFaulted}
+use Rattle.troop_main.specs.Runs.{Replays, IsExact}
 
--- line n of a script isn't built, and each line before it is
-pub record IsFirstUnbuilt (script : List (List ℕ)) (n : ℕ) : Type 0 where
-  pub before : List (List ℕ)
+-- how many bytes these lines have, each with one for its line feed
+abbrev pub script_size : List (List ℕ) → ℕ
+script_size script = length (with_feeds script)
+
+-- it is blank, or a step that is built
+abbrev pub IsPlayable : Meaning → Type 0
+IsPlayable meaning.Blank = Unit {0}
+IsPlayable (meaning.Step s) = is_built s ≡ true
+IsPlayable meaning.Bad = ⊥
+
+-- it is a step that isn't built
+abbrev pub IsUnbuilt : Meaning → Type 0
+IsUnbuilt meaning.Blank = ⊥
+IsUnbuilt (meaning.Step s) = is_built s ≡ false
+IsUnbuilt meaning.Bad = ⊥
+
+-- a line within the limit of a line, which is blank or a step that is built
+abbrev pub IsPlayableLine : List ℕ → Type 0
+IsPlayableLine line = (length line ≤ most_line) × IsPlayable (meaning_of line)
+
+-- the line behind these, the first of which has number k, stops by this, where the lines may have so many bytes
+abbrev pub StopsBehind : ℕ → ℕ → List (List ℕ) → List ℕ → Outcome → Type 0
+StopsBehind room k before line outcome.Done = ⊥
+StopsBehind room k before line outcome.Usage = ⊥
+StopsBehind room k before line outcome.Memory = ⊥
+StopsBehind room k before line outcome.ReadFault = ⊥
+StopsBehind room k before line outcome.WriteFault = ⊥
+StopsBehind room k before line (outcome.BadLine n) =
+    (n ≡ length before + k) × ((most_line < length line) ⊎ ((length line ≤ most_line) × (script_size (before ++ line ∷ []) ≤ room) × (meaning_of line ≡ meaning.Bad)))
+StopsBehind room k before line outcome.TooMuch = (length line ≤ most_line) × (room < script_size (before ++ line ∷ []))
+StopsBehind room k before line (outcome.Unbuilt n) =
+    (n ≡ length before + k) × (length line ≤ most_line) × (script_size (before ++ line ∷ []) ≤ room) × IsUnbuilt (meaning_of line)
+
+-- a line of the script stops it by this, and no line in front of it stops it
+pub record IsFirstStop (limit : ℕ) (script : List (List ℕ)) (stop : Outcome) : Type 0 where
   pub line : List ℕ
   pub behind : List (List ℕ)
-  pub splits : script ≡ before ++ line ∷ behind
-  pub number : n ≡ length before + 1
-  pub built : All IsBuiltLine before
-  pub unbuilt : IsUnbuiltLine line
+  pub splits : script ≡ before_stop limit script ++ line ∷ behind
+  pub playable : All IsPlayableLine (before_stop limit script)
+  pub within : script_size (before_stop limit script) ≤ limit
+  pub stops : StopsBehind limit 1 (before_stop limit script) line stop
 
--- The line that is reported isn't built, and each one before it is; where none is reported, every line is built.
-abbrev pub FirstUnbuilt : Type 0
-FirstUnbuilt = (script : List (List ℕ))
-    → ((n : ℕ) → first_unbuilt 1 script ≡ Some n → IsFirstUnbuilt script n) × (first_unbuilt 1 script ≡ None → All IsBuiltLine script)
+-- no line of the script stops it
+pub record IsPlayedWhole (limit : ℕ) (script : List (List ℕ)) : Type 0 where
+  pub all : before_stop limit script ≡ script
+  pub playable : All IsPlayableLine script
+  pub within : script_size script ≤ limit
 
--- 10 is exact.
-abbrev pub TooMuchExactly : Type 0
-TooMuchExactly = (code : ℕ) (input out err : Port) → Replays code input out err → IsTooMuchExactly code input
+-- The line by which a script stops is the first that is over the limit of a line, or with which the lines pass the limit, or that is neither blank nor a step that is built; where it doesn't stop there is none.
+abbrev pub FirstStop : Type 0
+FirstStop = (limit : ℕ) (script : List (List ℕ))
+    → ((stop : Outcome) → stop_of limit script ≡ Some stop → IsFirstStop limit script stop) × (stop_of limit script ≡ None → IsPlayedWhole limit script)
 
--- 12 is exact.
-abbrev pub UnbuiltExactly : Type 0
-UnbuiltExactly = (code : ℕ) (input out err : Port) → Replays code input out err → IsUnbuiltExactly code input err
-
--- But for want of memory and for faults, 0 is answered exactly where every line is built, and all that the lines print was written.
-abbrev pub DoneExactly : Type 0
-DoneExactly = (code : ℕ) (input out err : Port) (bytes : List ℕ) → Replays code input out err
-    → input.before ≡ Some bytes → (IsFaulted input → ⊥) → (IsFaulted out → ⊥) → code ≢ 3
-    → ((code ≡ 0) ↔ IsBuilt bytes) × (code ≡ 0 → Took out (output (steps_of (lines bytes))))
+-- But for want of memory, where no fault was counted the status is exact.
+abbrev pub ReplaysExactly : Type 0
+ReplaysExactly = (limit code : ℕ) (input out err : Port) → Replays limit code input out err → IsExact limit code input out err
 
 -- 4 comes only with a counted fault of the input, 5 only with one of the output, and with any other status no fault was counted of either.
 abbrev pub FaultsExactly : Type 0
-FaultsExactly = (code : ℕ) (input out err : Port) → Replays code input out err
+FaultsExactly = (limit code : ℕ) (input out err : Port) → Replays limit code input out err
     → (code ≡ 4 → IsFaulted input × IsCalm out) × (code ≡ 5 → IsCalm input × IsFaulted out)
     × (code ≢ 4 → code ≢ 5 → IsCalm input × IsCalm out)

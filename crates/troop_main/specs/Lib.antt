@@ -1,13 +1,8 @@
-pub mod Lines
-pub mod Values
-pub mod Operations
-pub mod Requests
-pub mod Grammar
-pub mod Print
-pub mod Play
+pub mod Steps
+pub mod Script
 pub mod Ports
-pub mod Input
 pub mod Words
 pub mod Outcome
 pub mod Runs
+pub mod Turns
 pub mod Laws

@@ -10,6 +10,7 @@ code_of outcome.Usage = 2
 code_of outcome.Memory = 3
 code_of outcome.ReadFault = 4
 code_of outcome.WriteFault = 5
+code_of (outcome.BadLine n) = 7
 code_of outcome.TooMuch = 10
 code_of (outcome.Unbuilt n) = 12
 
@@ -20,5 +21,6 @@ error_line outcome.Usage = codes "troop: usage\n"
 error_line outcome.Memory = codes "troop: out of memory\n"
 error_line outcome.ReadFault = codes "troop: read fault\n"
 error_line outcome.WriteFault = codes "troop: write fault\n"
+error_line (outcome.BadLine n) = codes "troop: bad line " ++ (decimal n ++ codes "\n")
 error_line outcome.TooMuch = codes "troop: too much input\n"
 error_line (outcome.Unbuilt n) = codes "troop: line " ++ (decimal n ++ codes " isn't built\n")

@@ -1,30 +1,16 @@
-//! Laws of the lines and of the statuses, each the contract of a function that does nothing.
-ghost use Rattle.troop_main.specs.Lines.{LinesArePieces};
-ghost use Rattle.troop_main.specs.Laws.{FirstUnbuilt, TooMuchExactly, UnbuiltExactly, DoneExactly, FaultsExactly};
+//! Laws of a script's lines and of the statuses, each the contract of a function that does nothing.
+ghost use Rattle.troop_main.specs.Laws.{FirstStop, ReplaysExactly, FaultsExactly};
 
-/// The lines are the pieces between line feeds, and what stands behind the last one.
-pub fn lines_law()
-    ensures { LinesArePieces }
+/// The line by which a script stops is the first that is over the limit of a line, or with which the lines pass the limit of
+/// the input, or that is neither blank nor a step that is built.
+pub fn first_stop_law()
+    ensures { FirstStop }
 {}
 
-/// The line that is reported isn't built, and each one before it is; where none is reported, every line is built.
-pub fn first_unbuilt_law()
-    ensures { FirstUnbuilt }
-{}
-
-/// Too much input is answered exactly where more bytes were taken than an input may have.
-pub fn too_much_exactly()
-    ensures { TooMuchExactly }
-{}
-
-/// A line that isn't built is reported exactly where there is one, by the number of the first.
-pub fn unbuilt_exactly()
-    ensures { UnbuiltExactly }
-{}
-
-/// Where every line is built, and nothing failed, all that they print is written.
-pub fn done_exactly()
-    ensures { DoneExactly }
+/// Where no fault was counted and memory wasn't wanting, the status is that by which the input's bytes stop, or 0 where they
+/// don't, and all that they print was written.
+pub fn replays_exactly()
+    ensures { ReplaysExactly }
 {}
 
 /// Each count of faults rose at its own status, and at no other.

@@ -17,9 +17,11 @@ pub enum Outcome {
     ReadFault,
     /// The output counted a fault.
     WriteFault,
-    /// The input has too many bytes.
+    /// The line of this number isn't in the grammar, or is over the limit of a line.
+    BadLine(u64),
+    /// The lines pass the limit of the input.
     TooMuch,
-    /// The line of this number isn't built.
+    /// The line of this number is a step that isn't built.
     Unbuilt(u64),
 }
 
@@ -34,6 +36,7 @@ impl Outcome {
             Outcome::Memory => 3,
             Outcome::ReadFault => 4,
             Outcome::WriteFault => 5,
+            Outcome::BadLine(_) => 7,
             Outcome::TooMuch => 10,
             Outcome::Unbuilt(_) => 12,
         };

@@ -1,5 +1,5 @@
 //! The line on standard error, which takes no memory.
-ghost use Rattle.std.specs.Prelude.{◌≡◌, ◌++◌, codes, decimal, false};
+ghost use Rattle.std.specs.Prelude.{◌≡◌, ◌++◌, decimal, false};
 ghost use Rattle.troop_main.specs.Ports.{port_of, Reported};
 ghost use Rattle.troop_main.specs.Outcome.{code_of, error_line};
 
@@ -32,8 +32,9 @@ fn report_line<E: Sink>(outcome: Outcome, err: &mut E)
         Outcome::Memory => write_line(err, b"troop: out of memory\n"),
         Outcome::ReadFault => write_line(err, b"troop: read fault\n"),
         Outcome::WriteFault => write_line(err, b"troop: write fault\n"),
+        Outcome::BadLine(line) => report_number(b"troop: bad line ", line, b"\n", err),
         Outcome::TooMuch => write_line(err, b"troop: too much input\n"),
-        Outcome::Unbuilt(line) => report_unbuilt(line, err),
+        Outcome::Unbuilt(line) => report_number(b"troop: line ", line, b" isn't built\n", err),
     }
 }
 
@@ -45,37 +46,37 @@ fn write_line<E: Sink>(err: &mut E, line: &[u8])
     let _ = write_all(err, line);
 }
 
-// Writes the line of the outcome that names a line.
-fn report_unbuilt<E: Sink>(line: u64, err: &mut E)
+// Writes a line with a number in it.
+fn report_number<E: Sink>(before: &[u8], number: u64, behind: &[u8], err: &mut E)
     requires { E.closed err.old ≡ false }
     ensures { Reported (port_of (E.taken err.old) (E.taken err.new) (E.faults err.old) (E.faults err.new))
-        (codes "troop: line " ++ (decimal line ++ codes " isn't built\n")) }
+        (before.now ++ (decimal number ++ behind.now)) }
 {
-    match write_all(err, b"troop: line ") {
-        Written::All => report_number(line, err),
+    match write_all(err, before) {
+        Written::All => report_from_number(number, behind, err),
         Written::Part(_) => {}
     }
 }
 
-// Writes that line from its number on.
-fn report_number<E: Sink>(line: u64, err: &mut E)
+// Writes such a line from its number on.
+fn report_from_number<E: Sink>(number: u64, behind: &[u8], err: &mut E)
     requires { E.closed err.old ≡ false }
     ensures { Reported (port_of (E.taken err.old) (E.taken err.new) (E.faults err.old) (E.faults err.new))
-        (decimal line ++ codes " isn't built\n") }
+        (decimal number ++ behind.now) }
 {
     let mut buffer = Buffer::new();
-    let digits = buffer.format(line);
-    report_digits(digits.as_bytes(), err);
+    let digits = buffer.format(number);
+    report_digits(digits.as_bytes(), behind, err);
 }
 
-// Writes these digits, and the end of that line.
-fn report_digits<E: Sink>(digits: &[u8], err: &mut E)
+// Writes these digits, and what stands behind them.
+fn report_digits<E: Sink>(digits: &[u8], behind: &[u8], err: &mut E)
     requires { E.closed err.old ≡ false }
     ensures { Reported (port_of (E.taken err.old) (E.taken err.new) (E.faults err.old) (E.faults err.new))
-        (digits.now ++ codes " isn't built\n") }
+        (digits.now ++ behind.now) }
 {
     match write_all(err, digits) {
-        Written::All => write_line(err, b" isn't built\n"),
+        Written::All => write_line(err, behind),
         Written::Part(_) => {}
     }
 }

@@ -3,7 +3,7 @@ ghost use Rattle.std.specs.Prelude.{◌≡◌, ◌↔◌, Some, None, false, map
 ghost use Rattle.troop_main.specs.Ports.{port_of, Reported};
 ghost use Rattle.troop_main.specs.Words.{command_of};
 ghost use Rattle.troop_main.specs.Outcome.{error_line};
-ghost use Rattle.troop_main.specs.Runs.{Replays, IsTooMuchExactly, IsUnbuiltExactly};
+ghost use Rattle.troop_main.specs.Runs.{most_input, Replays, IsExact};
 
 use crate::Outcome;
 use crate::runs::replay;
@@ -32,14 +32,13 @@ pub fn troop<I: Source, O: Sink, E: Sink>(
     ensures usage_line { result.code ≡ 2 →
         Reported (port_of (E.taken err.old) (E.taken err.new) (E.faults err.old) (E.faults err.new)) (error_line Outcome.Usage) }
 
-    ensures replay { command_of (map string_bytes words.now) ≡ Some Command.Replay → Replays result.code
+    ensures replay { command_of (map string_bytes words.now) ≡ Some Command.Replay → Replays most_input result.code
         (port_of (I.remaining input.old) (I.remaining input.new) (I.faults input.old) (I.faults input.new))
         (port_of (O.taken out.old) (O.taken out.new) (O.faults out.old) (O.faults out.new))
         (port_of (E.taken err.old) (E.taken err.new) (E.faults err.old) (E.faults err.new)) }
-    ensures too_much { command_of (map string_bytes words.now) ≡ Some Command.Replay → IsTooMuchExactly result.code
-        (port_of (I.remaining input.old) (I.remaining input.new) (I.faults input.old) (I.faults input.new)) }
-    ensures unbuilt { command_of (map string_bytes words.now) ≡ Some Command.Replay → IsUnbuiltExactly result.code
+    ensures exact { command_of (map string_bytes words.now) ≡ Some Command.Replay → IsExact most_input result.code
         (port_of (I.remaining input.old) (I.remaining input.new) (I.faults input.old) (I.faults input.new))
+        (port_of (O.taken out.old) (O.taken out.new) (O.faults out.old) (O.faults out.new))
         (port_of (E.taken err.old) (E.taken err.new) (E.faults err.old) (E.faults err.new)) }
 {
     match read_command(words) {
