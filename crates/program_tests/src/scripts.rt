@@ -1,0 +1,168 @@
+//! What no file shows: the words, the limit of the input, and streams that come in pieces, fail or have no room.
+use std::alloc::Global;
+use std::test::Fail;
+use troop_main::{Outcome, faults_exactly, first_stop_law, replay_upto, replays_exactly, troop};
+use troop_ports::{BytesSink, BytesSource};
+
+/// A run's limit and how its streams behave, and then what it comes to.
+#[derive(Clone, Copy)]
+struct Run {
+    limit: u64,
+    /// The lengths of the pieces in which the script comes.
+    pieces: &'static [u64],
+    /// The numbers of failing reads.
+    reads: &'static [u64],
+    /// The numbers of failing writes.
+    writes: &'static [u64],
+    /// The output's room.
+    room: u64,
+    code: u8,
+    out: &'static str,
+    err: &'static str,
+}
+
+/// A guest; a leave of nobody, for which a line is printed; and the guest's edit, whose line has no line feed. Their lines have
+/// 24, 28 and 48 bytes, each with a line feed.
+const SCRIPT: &str = r#"["guest","ann","lines"]
+["call",2,{"call":"leave"}]
+["call",1,{"call":"edit","op":["hi"],"seen":1}]"#;
+
+const NOBODY: &str = "{\"no\":\"member\",\"who\":2}\n";
+
+const DONE: Run = Run {
+    limit: 100,
+    pieces: &[],
+    reads: &[],
+    writes: &[],
+    room: 100,
+    code: 0,
+    out: "{\"no\":\"member\",\"who\":2}\n{\"entries\":2,\"marks\":[[1,2]],\"text\":\"hi\"}\n",
+    err: "",
+};
+
+const TOO_MUCH: Run = Run {
+    code: 10,
+    err: "troop: too much input\n",
+    ..DONE
+};
+
+const READ_FAULT: Run = Run {
+    code: 4,
+    err: "troop: read fault\n",
+    ..DONE
+};
+
+const WRITE_FAULT: Run = Run {
+    code: 5,
+    err: "troop: write fault\n",
+    ..DONE
+};
+
+const RUNS: [Run; 11] = [
+    DONE,
+    Run {
+        pieces: &[1; 99],
+        ..DONE
+    },
+    Run {
+        pieces: &[3, 7, 1, 39, 5, 1, 11],
+        ..DONE
+    },
+    Run {
+        limit: 23,
+        out: "",
+        ..TOO_MUCH
+    },
+    // The last line counts with a line feed too.
+    Run {
+        limit: 99,
+        out: NOBODY,
+        ..TOO_MUCH
+    },
+    Run {
+        reads: &[1],
+        out: "",
+        ..READ_FAULT
+    },
+    // The read that would tell the end: the last line isn't known to be whole.
+    Run {
+        reads: &[2],
+        out: NOBODY,
+        ..READ_FAULT
+    },
+    // A read in the middle: the first two lines are whole.
+    Run {
+        pieces: &[60],
+        reads: &[2],
+        out: NOBODY,
+        ..READ_FAULT
+    },
+    Run {
+        writes: &[1],
+        out: "",
+        ..WRITE_FAULT
+    },
+    Run {
+        writes: &[2],
+        out: NOBODY,
+        ..WRITE_FAULT
+    },
+    Run {
+        room: 4,
+        out: "{\"no",
+        ..WRITE_FAULT
+    },
+];
+
+#[test]
+fn limit_and_streams_decide_how_a_run_ends(rt: HostRuntime) -> Result<(), Fail> {
+    for run in &RUNS {
+        let mut input = BytesSource::new(rt.alloc(), SCRIPT.as_bytes(), run.pieces, run.reads)?;
+        let mut out = BytesSink::new(rt.alloc(), run.room, run.writes)?;
+        let mut err = BytesSink::new(rt.alloc(), 100, &[])?;
+        let status = replay_upto(rt.alloc(), run.limit, &mut input, &mut out, &mut err);
+        assert_eq!(rt; status.code, run.code);
+        assert_eq!(rt; out.bytes(), run.out.as_bytes());
+        assert_eq!(rt; err.bytes(), run.err.as_bytes());
+    }
+    Ok(())
+}
+
+fn words_of(alloc: Global, words: &[&str]) -> Result<Vec<String>, Fail> {
+    let mut owned = Vec::new(alloc);
+    for word in words {
+        owned.push(String::from_str(alloc, word)?)?;
+    }
+    Ok(owned)
+}
+
+const WORDS: [(&[&str], u8); 5] = [
+    (&["replay"], 0),
+    (&[], 2),
+    (&["replay", "now"], 2),
+    (&["dance"], 2),
+    (&["serve", "a", "--sessions", "1", "--sessions", "1"], 2),
+];
+
+#[test]
+fn words_choose_the_command(rt: HostRuntime) -> Result<(), Fail> {
+    for (words, code) in &WORDS {
+        let words = words_of(rt.alloc(), words)?;
+        let mut input = BytesSource::new(rt.alloc(), SCRIPT.as_bytes(), &[], &[])?;
+        let mut out = BytesSink::new(rt.alloc(), 100, &[])?;
+        let mut err = BytesSink::new(rt.alloc(), 100, &[])?;
+        let status = troop(rt.alloc(), &words, &mut input, &mut out, &mut err);
+        assert_eq!(rt; status.code, *code);
+        let line = if *code == 0 { "" } else { "troop: usage\n" };
+        assert_eq!(rt; err.bytes(), line.as_bytes());
+    }
+    Ok(())
+}
+
+#[test]
+fn each_law_is_called(rt: HostRuntime) {
+    first_stop_law();
+    replays_exactly();
+    faults_exactly();
+    assert_eq!(rt; Outcome::TooMuch.status().code, 10);
+}
