@@ -5,11 +5,10 @@
 
 EDITS is 20000 where it isn't given. A program of a few lines makes a text and does so many edits of one character each; it is proved
 and built in a folder of its own, with this checkout's crates, which takes minutes. What is printed are ratios to the first number of
-the table, which is of edits typed one behind the other in the shortest text, and that number in nanoseconds of processor time.
-Nothing is asserted.
+the table, which is of edits typed one behind the other in the shortest text, and that number in nanoseconds. It wants a machine
+that does nothing else. Nothing is asserted.
 """
 import os
-import resource
 import subprocess
 import sys
 import tempfile
@@ -141,17 +140,12 @@ def proved(program):
 
 
 def time_of(built, pattern, length, edits):
-    """Processor time of an edit, in nanoseconds: of three runs the least, without what the same run takes with no edit."""
-    return (least(built, pattern, length, edits) - least(built, pattern, length, 0)) / edits
-
-
-def least(built, pattern, length, edits):
+    """Nanoseconds of an edit: of five runs the least."""
     times = []
-    for _ in range(3):
-        before = resource.getrusage(resource.RUSAGE_CHILDREN).ru_utime
-        subprocess.run([built, str(pattern), str(length), str(edits)], check=True, capture_output=True)
-        times.append(resource.getrusage(resource.RUSAGE_CHILDREN).ru_utime - before)
-    return min(times) * 1e9
+    for _ in range(5):
+        run = subprocess.run([built, str(pattern), str(length), str(edits)], check=True, capture_output=True, text=True)
+        times.append(int(run.stdout.split()[0]))
+    return min(times) / edits
 
 
 def main():
@@ -159,7 +153,7 @@ def main():
     with tempfile.TemporaryDirectory() as folder:
         built = proved(build(folder))
         unit = None
-        print(f"{edits} edits of one character; each number is the processor time of one of them, in units of the first one")
+        print(f"{edits} edits of one character; each number is the time of one of them, in units of the first one")
         print(f"{'':14}" + "".join(f"{length:>12}" for length in LENGTHS))
         for pattern, name in enumerate(PATTERNS):
             times = [time_of(built, pattern, length, edits) for length in LENGTHS]
