@@ -123,6 +123,21 @@ fn edits_change_a_text_in_place(rt: HostRuntime) -> Result<(), Fail> {
     Ok(())
 }
 
+// What is typed in three edits, one behind the other.
+const TYPED: &[&[Spelled]] = &[&[Put("a")], &[Keep(1), Put("bc")], &[Keep(3), Put("z")]];
+
+#[test]
+fn a_slice_of_what_was_typed(rt: HostRuntime) -> Result<(), Fail> {
+    let alloc = rt.alloc();
+    let mut text = GapText::new(alloc);
+    for parts in TYPED {
+        edit_text(&mut text, &op(alloc, parts)?)?;
+    }
+    assert!(rt; text.len() == 4);
+    assert!(rt; text.slice(1, 3)?.same(&Text::of(alloc, "bc")?));
+    Ok(())
+}
+
 #[test]
 fn new_characters_are_marked_with_their_performer(rt: HostRuntime) -> Result<(), Fail> {
     runs_law();
