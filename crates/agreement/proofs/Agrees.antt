@@ -1,5 +1,5 @@
 -- The agreement of whole runs, with the numbers of the calls.
-use Rattle.std.proofs.Common.{◌≡◌, ◌≤◌, ℕ, suc, ◌+◌, Bool, true, false, if◌then◌else◌, nat_eq, Option, None, Some, List, [], ◌∷◌, ◌++◌, length, take, drop, slice_get, refl, sym, ap, ◌∙◌, arith}
+use Rattle.std.proofs.Common.{◌≡◌, ◌≤◌, ℕ, suc, Bool, true, false, if◌then◌else◌, nat_eq, Option, None, Some, List, [], ◌∷◌, ◌++◌, length, take, drop, slice_get, refl, sym, ap, ◌∙◌, arith}
 use Rattle.ot_text.specs.Marked.{Marked}
 use Rattle.troop_entry.specs.declared.row.Row.{Row}
 use Rattle.troop_entry.specs.declared.call.Call.{Call}

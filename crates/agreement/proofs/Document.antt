@@ -3,7 +3,7 @@ use Rattle.std.proofs.Common.{◌≡◌, ℕ, Option, None, List, length, take, 
 use Rattle.std.proofs.lemmas.List.{take_all}
 use Rattle.troop_entry.specs.declared.row.Row.{Row}
 use Rattle.troop_entry.specs.declared.call.Call.{Call}
-use Rattle.log_model.specs.Log.{doc, entries}
+use Rattle.log_model.specs.Log.{doc}
 use Rattle.log_model.specs.Legal.{IsLegal}
 use Rattle.log_model.specs.Told.{doc_told}
 use Rattle.log_model.proofs.DocTold.{told_between}

@@ -1,5 +1,5 @@
 -- Operations of rows behind one another.
-use Rattle.std.proofs.Common.{◌≡◌, Option, None, Some, List, [], ◌∷◌, ◌++◌, refl, ap, ◌∙◌, ◌+◌}
+use Rattle.std.proofs.Common.{◌≡◌, Option, None, Some, List, [], ◌∷◌, ◌++◌, refl, ap, ◌∙◌}
 use Rattle.ot_text.specs.Change.{Change}
 use Rattle.troop_entry.specs.declared.row.Row.{Row}
 use Rattle.log_model.specs.Log.{with_op, ops}

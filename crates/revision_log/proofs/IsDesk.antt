@@ -1,17 +1,15 @@
 -- What a desk keeps behind one more row.
-use Rattle.std.proofs.Common.{◌≡◌, ◌≢◌, ℕ, zero, suc, ◌+◌, ◌-◌, ◌≤◌, ◌<◌, Bool, true, false, ◌&&◌, ◌||◌, not, if◌then◌else◌, Option, None, Some, List, [], ◌∷◌, ◌++◌, length, take, drop, slice_get, get_or, set, length-set, refl, sym, ◌∙◌, ap, subst, arith, length-append, ⊎_elim, option_map}
-use Rattle.std.specs.Prelude.{nat_le, nat_lt, ◌==◌, count_by}
+use Rattle.std.proofs.Common.{◌≡◌, ◌≢◌, ℕ, zero, suc, ◌+◌, ◌-◌, ◌≤◌, ◌<◌, Bool, true, false, ◌&&◌, ◌||◌, not, if◌then◌else◌, Option, None, Some, List, [], ◌∷◌, ◌++◌, length, take, slice_get, get_or, set, length-set, refl, sym, ◌∙◌, ap, arith, length-append, option_map}
+use Rattle.std.specs.Prelude.{nat_lt, ◌==◌, count_by}
 use Rattle.std.proofs.Math.Bool.{or-false}
 use Rattle.std.proofs.lemmas.Bool.{and_parts}
 use Rattle.std.proofs.lemmas.Bool.Decides.{nat_tests}
-use Rattle.std.proofs.lemmas.List.{take-append-le, take_at, take_all}
+use Rattle.std.proofs.lemmas.List.{take-append-le, take_all}
 use Rattle.std.proofs.lemmas.List.Sums.{sum_by-append, sum_by-set, count_by-le-length}
 use Rattle.std.proofs.lemmas.Option.{slice_get_within, slice_get_past, get_or_from_slice_get}
-use Rattle.ot_text.specs.Change.{Change, base}
 use Rattle.ot_text.specs.Marked.{Marked}
 use Rattle.troop_entry.specs.declared.call.Call.{Call}
 use Rattle.troop_entry.specs.declared.call.Call.TheVariants as call
-use Rattle.troop_entry.specs.declared.reply.Reply.{Reply}
 use Rattle.troop_entry.specs.declared.reply.Reply.TheVariants as reply
 use Rattle.troop_entry.specs.declared.row.Row.{Row}
 use Rattle.troop_entry.specs.Kinds.{is_join, is_leave}

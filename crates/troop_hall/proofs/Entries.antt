@@ -1,5 +1,5 @@
 -- The entries from a position on.
-use Rattle.std.proofs.Common.{◌≡◌, ℕ, suc, ◌-◌, ◌≤◌, ◌<◌, List, [], ◌∷◌, length, take, drop, min, refl, sym, ap, ◌∙◌, arith}
+use Rattle.std.proofs.Common.{◌≡◌, ℕ, suc, ◌-◌, ◌<◌, List, [], ◌∷◌, length, take, drop, min, refl, sym, ap, ◌∙◌, arith}
 use Rattle.std.proofs.lemmas.List.{drop_min, take_all, length-drop}
 use Rattle.troop_entry.specs.declared.row.Row.{Row}
 use Rattle.log_model.specs.Log.{entries_from, entries}

@@ -1,14 +1,13 @@
 -- A printed operation is read back, and its data is sound.
-use Rattle.std.proofs.Common.{◌≡◌, ℕ, zero, suc, ◌+◌, ◌^◌, ◌<◌, ◌≤◌, List, [], ◌∷◌, ◌++◌, map, take, get_or, length, true, refl, sym, ap, ◌∙◌, max, arith, lt-ltb, le-leb}
-use Rattle.std.specs.Prelude.{All, Option, Some, None, option_map, option_and_then, nat_le, IsUtf8, encode_utf8_all, chars}
-use Rattle.std.specs.Str.{all_scalars}
+use Rattle.std.proofs.Common.{◌≡◌, ℕ, zero, suc, ◌+◌, ◌^◌, ◌<◌, ◌≤◌, List, [], ◌∷◌, map, refl, sym, ap, ◌∙◌, max, arith, lt-ltb, le-leb}
+use Rattle.std.specs.Prelude.{All, Some, option_and_then, IsUtf8, encode_utf8_all}
 use Rattle.std.proofs.lemmas.Str.{chars-encodes}
 use Rattle.std.proofs.lemmas.List.Elements.{All-head, All-tail}
 use Rattle.std.proofs.lemmas.List.Sums.{sum_by-cons}
-use Rattle.serde_json.specs.Data.{Data, item, no_items, Items, items_depth}
+use Rattle.serde_json.specs.Data.{Data, items_depth}
 use Rattle.serde_json.specs.View.{items_of}
 use Rattle.ot_text.specs.Change.{Change, base}
-use Rattle.ot_text.specs.Parts.{norm, part_base, base_of, parts_of, IsNormal}
+use Rattle.ot_text.specs.Parts.{part_base, base_of, parts_of, IsNormal}
 use Rattle.ot_text.specs.declared.part.Part.{Part}
 use Rattle.ot_text.specs.declared.part.Part.TheVariants.{Retain, Insert, Delete}
 use Rattle.ot_text.proofs.PartsOf.{normal-parts_of, norm-parts_of}

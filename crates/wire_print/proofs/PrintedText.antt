@@ -1,5 +1,5 @@
 -- What is printed of sound data is read back, kind by kind.
-use Rattle.std.proofs.Common.{◌≡◌, ℕ, ◌≤◌, List, false, refl, ap, ◌∙◌, le-leb}
+use Rattle.std.proofs.Common.{◌≡◌, ℕ, ◌≤◌, List, false, refl, ◌∙◌, le-leb}
 use Rattle.std.specs.Prelude.{Result, Ok, Err, OnOk, Some, IsUtf8}
 use Rattle.std.proofs.lemmas.Str.{chars-encodes}
 use Rattle.json.proofs.Printed.Utf8.{IsUtf8-are_ascii}

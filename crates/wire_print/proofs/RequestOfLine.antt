@@ -1,5 +1,5 @@
 -- A printed request is read back.
-use Rattle.std.proofs.Common.{◌≡◌, ℕ, zero, suc, ◌≤◌, false, refl, ap, ◌∙◌, le-leb, arith}
+use Rattle.std.proofs.Common.{◌≡◌, zero, suc, ◌≤◌, false, refl, ap, ◌∙◌, le-leb, arith}
 use Rattle.std.specs.Prelude.{Some, option_and_then, codes}
 use Rattle.std.proofs.lemmas.Str.{chars-encodes}
 use Rattle.json.proofs.Printed.Utf8.{IsUtf8-are_ascii}

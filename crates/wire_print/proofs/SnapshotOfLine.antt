@@ -1,6 +1,6 @@
 -- A printed snapshot is read back.
-use Rattle.std.proofs.Common.{◌≡◌, ℕ, zero, suc, ◌+◌, ◌≤◌, List, [], ◌∷◌, ◌++◌, length, map, replicate, false, max, refl, sym, ap, ap₂, ◌∙◌, le-leb, arith}
-use Rattle.std.specs.Prelude.{All, Some, option_and_then, option_map, zip, sum_by, ◌==◌}
+use Rattle.std.proofs.Common.{◌≡◌, ℕ, zero, suc, ◌≤◌, List, [], ◌∷◌, length, map, replicate, false, refl, sym, ap, ◌∙◌, le-leb, arith}
+use Rattle.std.specs.Prelude.{All, Some, option_and_then, option_map, zip, sum_by}
 use Rattle.std.proofs.lemmas.Bool.{eq-eqb}
 use Rattle.std.proofs.lemmas.List.{length-append, length-replicate, length-map}
 use Rattle.std.proofs.lemmas.List.Elements.{All-head, All-tail}

@@ -1,5 +1,5 @@
 -- The printed lines: serde_json's compact text, with the keys of each object in byte order, and a line feed.
-use Rattle.std.specs.Prelude.{ℕ, ℤ, pos, neg_ℤ, Bool, true, List, [], ◌∷◌, ◌++◌, map, nat_le, ◌==◌, codes, encode_utf8_all, Vec, if◌then◌else◌}
+use Rattle.std.specs.Prelude.{ℕ, pos, neg_ℤ, Bool, true, List, [], ◌∷◌, ◌++◌, map, nat_le, ◌==◌, codes, encode_utf8_all, Vec, if◌then◌else◌}
 use Rattle.std.specs.List.{list_any}
 use Rattle.std.specs.declared.alloc.Global.{Global}
 use Rattle.hex.specs.Hex.{encode_lower}

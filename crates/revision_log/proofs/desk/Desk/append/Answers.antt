@@ -1,4 +1,4 @@
-use Rattle.std.proofs.Common.{◌≡◌, ◌≤◌, ◌<◌, ◌+◌, ◌∙◌, length, ap, subst, sym, true, arith}
+use Rattle.std.proofs.Common.{◌≡◌, ◌∙◌, ap, subst, sym, true, arith}
 use Rattle.std.specs.Vec.{vec_len, vec_capacity}
 use Rattle.log_model.specs.Log.{doc_after}
 use Rattle.revision_log.specs.DeskInvariant.{IsDesk, has_stayed, departed_after}

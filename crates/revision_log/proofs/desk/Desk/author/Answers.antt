@@ -1,4 +1,4 @@
-use Rattle.std.proofs.Common.{◌≤◌, arith}
+use Rattle.std.proofs.Common.{arith}
 use Rattle.revision_log.proofs.IsDesk.{few_joined}
 use Rattle.revision_log.proofs.desk.Desk.author.Goals as goal
 

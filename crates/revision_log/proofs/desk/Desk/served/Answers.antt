@@ -1,4 +1,3 @@
-use Rattle.std.proofs.Common.{sym, arith}
 use Rattle.std.proofs.lemmas.List.{take_rest}
 use Rattle.revision_log.proofs.MovedSoFar.{runs_behind}
 use Rattle.revision_log.proofs.SeenRefusal.{placed_edit}

@@ -1,4 +1,4 @@
-use Rattle.std.proofs.Common.{rules, ◌≡◌, ◌<◌, length, drop, sym, subst, arith}
+use Rattle.std.proofs.Common.{◌≡◌, ◌<◌, length, drop, sym, subst, arith}
 use Rattle.seat_lock.proofs.Begins.{begins_length}
 use Rattle.log_model.specs.Log.{entries}
 use Rattle.troop_hall.proofs.Entries.{some_entry}
