@@ -2,3 +2,10 @@ pub mod Faults
 pub mod Bytes
 pub mod Feeds
 pub mod Drains
+pub mod Wires
+pub mod Doors
+pub mod ListDoors
+pub mod Nets
+pub mod ListNets
+pub mod Shelves
+pub mod ListShelves

@@ -6,6 +6,8 @@ mod drivers;
 #[cfg(test)]
 mod lines;
 #[cfg(test)]
+mod links;
+#[cfg(test)]
 mod pipes;
 #[cfg(test)]
 mod ports;
