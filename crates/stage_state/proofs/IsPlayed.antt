@@ -1,5 +1,5 @@
 -- Played lists: one act more, a front, and what is pending then.
-use Rattle.std.proofs.Common.{◌≡◌, ℕ, Bool, true, false, if◌then◌else◌, Option, None, Some, List, [], ◌∷◌, ◌++◌, length, refl, sym, subst}
+use Rattle.std.proofs.Common.{ℕ, Bool, true, false, if◌then◌else◌, List, [], ◌∷◌, ◌++◌, length, sym, subst}
 use Rattle.ot_text.specs.Marked.{Marked}
 use Rattle.troop_entry.specs.declared.call.Call.{Call}
 use Rattle.troop_entry.specs.declared.entry.Entry.{Entry}

@@ -1,9 +1,8 @@
 -- What is kept is where the acts have led.
-use Rattle.std.proofs.Common.{◌≡◌, ◌+◌, Bool, true, false, ◌&&◌, ◌||◌, if◌then◌else◌, List, [], ◌∷◌, ◌++◌, length, refl, sym, ap, ◌∙◌, arith, append-nil, add-one, length-append}
+use Rattle.std.proofs.Common.{◌≡◌, ◌+◌, Bool, true, false, ◌&&◌, ◌||◌, if◌then◌else◌, List, [], ◌∷◌, ◌++◌, refl, sym, ap, ◌∙◌, arith, append-nil, add-one, length-append}
 use Rattle.std.specs.Prelude.{◌==◌}
 use Rattle.ot_text.specs.Change.{Change}
 use Rattle.troop_entry.specs.declared.call.Call.{Call}
-use Rattle.troop_entry.specs.declared.call.Call.TheVariants as call
 use Rattle.troop_entry.specs.declared.entry.Entry.{Entry}
 use Rattle.troop_entry.specs.declared.entry.Deed.{Deed}
 use Rattle.troop_entry.specs.declared.entry.Deed.TheVariants as deed
@@ -13,8 +12,7 @@ use Rattle.client_state.specs.Standing.{Standing, pending_on}
 use Rattle.client_state.specs.Steps.{client_after_edit, client_after_entry}
 use Rattle.client_state.specs.Causes.{CanEdit, CanTake}
 use Rattle.client_state.proofs.StandsOn.{edited_stands, entered_stands}
-use Rattle.stage_state.specs.declared.act.Next.TheVariants as next
-use Rattle.stage_state.specs.Machine.{Machine, taken_count, document, held_text, standing, is_closed, edit_asked, after_asking, after_typing, after_own_edit, after_other_entry, after_entry_taken}
+use Rattle.stage_state.specs.Machine.{Machine, document, held_text, standing, is_closed, edit_asked, after_asking, after_typing, after_own_edit, after_other_entry, after_entry_taken}
 use Rattle.stage_state.specs.StageInvariant.{KeptValue, Keeps}
 use Rattle.stage_state.proofs.Machine.{doc_told-one_more}
 

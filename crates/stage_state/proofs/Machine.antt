@@ -1,6 +1,5 @@
 -- Runs of the machine: one act more, what every act leaves, what was taken and what went out.
-use Rattle.std.proofs.Common.{◌≡◌, ℕ, suc, ◌+◌, ◌≤◌, Bool, true, false, if◌then◌else◌, ◌||◌, not, Option, None, Some, List, [], ◌∷◌, ◌++◌, length, take, drop, refl, sym, ap, ◌∙◌, arith, append_assoc, append-nil, length-append}
-use Rattle.ot_text.specs.Change.{Change}
+use Rattle.std.proofs.Common.{◌≡◌, ℕ, suc, ◌+◌, ◌≤◌, Bool, true, false, if◌then◌else◌, ◌||◌, not, None, List, [], ◌∷◌, ◌++◌, length, take, drop, refl, sym, ap, ◌∙◌, arith, append_assoc, append-nil, length-append}
 use Rattle.ot_text.specs.Marked.{Marked}
 use Rattle.troop_entry.specs.declared.call.Call.{Call}
 use Rattle.troop_entry.specs.declared.call.Call.TheVariants as call
@@ -13,13 +12,12 @@ use Rattle.log_model.specs.Told.{doc_told}
 use Rattle.log_model.proofs.DocTold.{told_doc, told_between}
 use Rattle.client_state.specs.declared.state.State.{State}
 use Rattle.client_state.specs.declared.state.State.TheVariants.{Synchronized, Awaiting, WithBuffer}
-use Rattle.client_state.specs.Pending.{outstanding, is_awaiting}
+use Rattle.client_state.specs.Pending.{outstanding}
 use Rattle.client_state.specs.Standing.{pending_on}
 use Rattle.stage_state.specs.declared.act.Act.{Act}
 use Rattle.stage_state.specs.declared.act.Act.TheVariants as act
-use Rattle.stage_state.specs.declared.act.Next.{Next}
 use Rattle.stage_state.specs.declared.act.Next.TheVariants as next
-use Rattle.stage_state.specs.Machine.{Machine, machine_from, taken_count, document, held_text, after_typing, after_own_edit, after_other_entry, after_entry_taken, takes_of, next_of, next_open, next_number, counted_from, sent_pairs, IsSend, after_sending, after_act, after_acts}
+use Rattle.stage_state.specs.Machine.{Machine, machine_from, taken_count, document, held_text, after_typing, after_own_edit, after_other_entry, after_entry_taken, takes_of, next_of, next_open, next_number, counted_from, sent_pairs, after_sending, after_act, after_acts}
 use Rattle.stage_state.specs.Staged.{Staged, acts_of, first_machine, machine, with_act}
 
 -- ---- the list of acts

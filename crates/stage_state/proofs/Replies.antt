@@ -1,15 +1,12 @@
 -- The functions say what the relations do.
-use Rattle.std.proofs.Common.{◌≡◌, ◌≢◌, ℕ, Bool, true, false, if◌then◌else◌, not, is_none, nat_eq, Option, None, Some, IsSome, List, length, refl, sym, ap, ◌∙◌, subst, option_map, true≢false, arith, Result, Ok, Err, OnOk, OnErr, IfOk, IfErr}
+use Rattle.std.proofs.Common.{◌≡◌, ◌≢◌, ℕ, Bool, true, false, if◌then◌else◌, not, is_none, Option, None, Some, List, length, refl, sym, ap, ◌∙◌, subst, option_map, true≢false, arith, Result, Ok, Err, OnOk, OnErr, IfOk, IfErr}
 use Rattle.std.specs.Prelude.{◌==◌, ◌&&◌, ◌-◌, ◌≤◌}
 use Rattle.std.proofs.lemmas.Bool.Decides.{nat_tests}
 use Rattle.ot_text.specs.Change.{Change, base}
 use Rattle.troop_entry.specs.declared.entry.Entry.{Entry}
-use Rattle.ot_text.specs.Same.{same_op}
 use Rattle.ot_text.proofs.SameOp.{op_decides}
 use Rattle.troop_entry.specs.Told.{op_told, is_edit_of, block_told}
-use Rattle.log_model.specs.Legal.{OpFits}
 use Rattle.client_state.specs.Pending.{outstanding, other_base}
-use Rattle.client_state.specs.Causes.{CanTake, EntryFits}
 use Rattle.stage_state.specs.declared.act.Act.{Act}
 use Rattle.stage_state.specs.declared.act.Act.TheVariants as act
 use Rattle.stage_state.specs.declared.act.Next.{Next}
@@ -22,13 +19,13 @@ use Rattle.stage_state.specs.declared.reply.AskRefusal.{AskRefusal}
 use Rattle.stage_state.specs.declared.reply.TakeRefusal.{TakeRefusal}
 use Rattle.stage_state.specs.declared.reply.AskRefusal.TheVariants as ask
 use Rattle.stage_state.specs.declared.reply.TakeRefusal.TheVariants as take
-use Rattle.stage_state.specs.Machine.{Machine, taken_count, held_text, standing, is_closed, block_held, next_of, IsSend, CanAct}
+use Rattle.stage_state.specs.Machine.{Machine, taken_count, held_text, is_closed, block_held, next_of, IsSend, CanAct}
 use Rattle.stage_state.specs.Causes.{IsTypeCause, IsEvalCause, IsResetCause, IsTakeCause}
 use Rattle.stage_state.specs.declared.reply.ActReply.{ActReply}
 use Rattle.stage_state.specs.declared.reply.ActReply.TheVariants as reply
 use Rattle.troop_entry.specs.declared.block.Block.{Block}
 use Rattle.stage_state.specs.Staged.{Staged, machine, with_act, stage_after_next, IsQuiet}
-use Rattle.stage_state.specs.Replies.{unless, reply_of, stage_after, is_free, spare_left, IsAskReply, IsTakeReply, type_refusal, blank_at, eval_refusal, reset_refusal, is_sent, unfit_refusal, entry_refusal, take_refusal, sends, accepts, ask_error, take_error}
+use Rattle.stage_state.specs.Replies.{unless, reply_of, stage_after, is_free, spare_left, IsAskReply, IsTakeReply, type_refusal, eval_refusal, reset_refusal, is_sent, unfit_refusal, entry_refusal, take_refusal, sends, accepts, ask_error, take_error}
 use Rattle.stage_state.proofs.Machine.{machine-joined}
 use Rattle.stage_state.proofs.Causes.{one_type_cause, one_eval_cause, one_reset_cause, one_take_cause}
 
