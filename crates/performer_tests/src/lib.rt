@@ -6,6 +6,10 @@ mod agreements;
 #[cfg(test)]
 mod client;
 #[cfg(test)]
+mod halls;
+#[cfg(test)]
+mod queue;
+#[cfg(test)]
 mod shape;
 #[cfg(test)]
 mod stage;

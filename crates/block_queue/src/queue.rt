@@ -1,0 +1,108 @@
+//! The queue and its two ends.
+ghost use Rattle.std.specs.Prelude.{◌≡◌, ◌<◌, [], ◌∷◌, ◌++◌, List, IfOk, IfErr, OnOk, MatchOption};
+ghost use Rattle.block_queue.specs.declared.item.Item.{Item};
+ghost use Rattle.block_queue.specs.Values.{IsEndOf, WasFull};
+
+use crate::Item;
+use crate::rule::{EndView, Ends, Popped, Pushed, Ring, Whole};
+use crossbeam_queue::Pass;
+use std::alloc::{AllocError, Global};
+use std::marker::Model;
+use std::sync::Wait;
+
+/// A queue of items, which its two ends share.
+#[derive(Drop)]
+pub struct Queue {
+    ring: Ring,
+}
+
+impl Model for Queue {
+    ghost use Rattle.crossbeam_queue.specs.Passes.{ruled_capacity};
+    ghost use Rattle.block_queue.specs.Values.{QueueValue};
+
+    ghost Value = { QueueValue };
+
+    ghost view = { λ q. record { table = q.ring.table.shared.table_id; room = ruled_capacity q.ring } };
+}
+
+/// The end that pushes, seen as the items that were pushed through it.
+#[derive(Drop)]
+pub struct Feeder {
+    pass: Pass<Item, EndView>,
+}
+
+impl Model for Feeder {
+    ghost use Rattle.block_queue.specs.Values.{EndValue, MayPush, pushed_by};
+
+    ghost Value = { EndValue };
+
+    ghost view = { λ f. record { table = f.pass.table_id; items = pushed_by f.pass } };
+
+    ghost invariant = { λ f. MayPush f.pass };
+}
+
+/// The end that pops, seen as the items that were popped through it.
+#[derive(Drop)]
+pub struct Taker {
+    pass: Pass<Item, EndView>,
+}
+
+impl Model for Taker {
+    ghost use Rattle.block_queue.specs.Values.{EndValue, MayPop, popped_by};
+
+    ghost Value = { EndValue };
+
+    ghost view = { λ t. record { table = t.pass.table_id; items = popped_by t.pass } };
+
+    ghost invariant = { λ t. MayPop t.pass };
+}
+
+impl Queue {
+    /// An empty queue with room for so many items, and its two ends. `Err` is want of memory.
+    pub fn new(alloc: Global, room: u64) -> Result<(Queue, Feeder, Taker), AllocError>
+        requires { 0 < room }
+        ensures ends { IfOk result (λ q. IsEndOf q.0 q.1 × IsEndOf q.0 q.2) }
+        ensures empty { IfOk result (λ q. (q.0.room ≡ room) × (q.1.items ≡ []) × (q.2.items ≡ [])) }
+    {
+        let (ring, mut pass) = Ring::ruled(alloc, room as usize)?;
+        let taker = ring.another::<Ends>(&mut pass);
+        Ok((Queue { ring }, Feeder { pass }, Taker { pass: taker }))
+    }
+}
+
+impl Feeder {
+    /// Pushes the item. `Err` hands it back, which comes only where the queue was full at a moment of this call. It takes no memory.
+    pub fn push<R: Wait>(&mut self, rt: &R, queue: &Queue, item: Item) -> Result<(), Item>
+        requires { IsEndOf queue.now self.old }
+        ensures queue { IsEndOf queue.now self.new }
+        ensures ok { OnOk result (self.new.items ≡ self.old.items ++ item ∷ []) }
+        ensures err { IfErr result (λ back. (back ≡ item) × (self.new.items ≡ self.old.items)) }
+        ensures full { IfErr result (λ back. WasFull queue.now.room self.old.items) }
+    {
+        queue.ring.push_as::<Pushed, R>(rt, &mut self.pass, item)
+    }
+}
+
+impl Taker {
+    /// Pops the next item. `None` comes where the queue was empty at a moment of this call. It takes no memory.
+    pub fn pop<R: Wait>(&mut self, rt: &R, queue: &Queue) -> Option<Item>
+        requires { IsEndOf queue.now self.old }
+        ensures queue { IsEndOf queue.now self.new }
+        ensures popped { MatchOption result (self.new.items ≡ self.old.items) (λ item. self.new.items ≡ self.old.items ++ item ∷ []) }
+    {
+        queue.ring.pop_as::<Popped, R>(rt, &mut self.pass)
+    }
+
+    /// Takes the other end in, which has ended. What was popped is then known to be what that end pushed first, in order. It takes
+    /// no memory.
+    pub fn take_in<R: Wait>(&mut self, _rt: &R, queue: &Queue, feeder: Feeder)
+        requires queue { IsEndOf queue.now self.old }
+        requires feeder { IsEndOf queue.now feeder }
+        ensures queue { IsEndOf queue.now self.new }
+        ensures popped { self.new.items ≡ self.old.items }
+        ensures order { (rest : List Item) × (feeder.items ≡ self.old.items ++ rest) }
+    {
+        queue.ring.absorb::<Ends>(&mut self.pass, feeder.pass);
+        queue.ring.learn_as::<Whole>(&mut self.pass);
+    }
+}
