@@ -150,6 +150,7 @@ fn ask_again<R: Wait + Abort>(
         length: 3,
     };
     assert_eq!(rt; hall.known(rt, first, 1), known);
+    assert_eq!(rt; hall.join_of(rt, first, 1), Some(0));
     assert_eq!(rt; hall.look(second), 3);
     let entries = hall.entries(rt, second, 2)?;
     assert!(rt; entries.len() == 1 && entries[0].at == 2);

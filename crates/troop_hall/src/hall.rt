@@ -8,9 +8,9 @@ ghost use Rattle.log_model.specs.Legal.{IsLegal};
 ghost use Rattle.log_model.specs.Log.{entries};
 ghost use Rattle.revision_log.specs.Asks.{is_free_ask};
 ghost use Rattle.troop_hall.specs.Seats.{IsDeskSeat, IsLater, IsAnswered};
-ghost use Rattle.troop_hall.specs.Knowledge.{known_at};
+ghost use Rattle.troop_hall.specs.Knowledge.{join_at, known_at};
 
-use crate::known::{Known, entries_from, known_of};
+use crate::known::{Known, entries_from, join_in, known_of};
 use revision_log::{Ask, Desk};
 use seat_lock::{Hall, SeatOf};
 use std::alloc::{AllocError, Global};
@@ -140,6 +140,24 @@ impl DeskHall {
             |desk: &Desk| -> Known
                 ensures { result ≡ known_at desk.entry.now who }
             { known_of(desk, who) },
+        )
+    }
+
+    /// Waits for its turn, and tells the position of this performer's join. It takes no memory.
+    pub fn join_of<R: Wait>(&self, rt: &R, seat: &mut DeskSeat, who: u32) -> Option<u64>
+        requires { IsDeskSeat self.now seat.old }
+        ensures hall { IsDeskSeat self.now seat.new × IsLater seat.old seat.new }
+        ensures join { result ≡ join_at seat.new.seen who }
+        ensures fits { length seat.new.seen < 2 ^ 64 }
+        ensures own { seat.new.own ≡ seat.old.own }
+        ensures legal { IsLegal seat.new.seen }
+    {
+        self.hall.with(
+            rt,
+            seat,
+            |desk: &Desk| -> Option<u64>
+                ensures { (result ≡ join_at desk.entry.now who) × (length desk.entry.now < 2 ^ 64) }
+            { join_in(desk, who) },
         )
     }
 

@@ -2,7 +2,7 @@
 ghost use Rattle.std.specs.Prelude.{◌≡◌, ◌<◌, ◌^◌, length, drop, option_map, Option, Some, None, IfOk, ℕ};
 ghost use Rattle.std.specs.List.{position_from};
 ghost use Rattle.log_model.specs.Log.{entries, has_join, is_join_by, is_leave_by};
-ghost use Rattle.troop_hall.specs.Knowledge.{known_at};
+ghost use Rattle.troop_hall.specs.Knowledge.{join_at, known_at};
 
 use revision_log::Desk;
 use std::alloc::AllocError;
@@ -38,6 +38,23 @@ pub(crate) fn known_of(desk: &Desk, who: u32) -> Known
         left: position_of_leave(rows, who),
         length: rows.len() as u64,
     }
+}
+
+/// The position of this performer's join.
+pub(crate) fn join_in(desk: &Desk, who: u32) -> Option<u64>
+    ensures join { result ≡ join_at desk.now who }
+    ensures fits { length desk.now < 2 ^ 64 }
+{
+    let index = index_of_join(desk.rows(), who)?;
+    Some(index as u64)
+}
+
+// The same, as an index.
+fn index_of_join(rows: &[Row], who: u32) -> Option<usize>
+    ensures { result ≡ position_from (is_join_by who) 0 rows.now }
+{
+    rows.iter()
+        .position(|row| row.call.is_join() && row.who == who)
 }
 
 // Whether this performer has joined.
