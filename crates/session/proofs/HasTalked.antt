@@ -1,0 +1,264 @@
+-- How the lines of an up line end.
+use Rattle.std.proofs.Common.{◌≡◌, inl, inr, ⊎_elim, ℕ, ◌+◌, ◌≤◌, Bool, true, false, ◌&&◌, ◌||◌, List, [], ◌∷◌, ◌++◌, length, refl, sym, ap, ◌∙◌, subst, arith, Option, Some, None, IfSome, Result, Ok, Err}
+use Rattle.std.proofs.lemmas.List.{append-nil, length-append}
+use Rattle.std.proofs.lemmas.List.Folds.{list_any-append}
+use Rattle.std.specs.List.{list_any}
+use Rattle.seat_lock.proofs.Begins.{begins_same}
+use Rattle.troop_entry.specs.declared.row.Row.{Row}
+use Rattle.troop_ports.specs.Bytes.{at_end}
+use Rattle.troop_hall.specs.Seats.{DeskSeatValue, IsLater}
+use Rattle.wire_lines.specs.Lines.{lines}
+use Rattle.wire_json.specs.declared.replies.WireReply.{WireReply}
+use Rattle.wire_json.specs.declared.replies.WireReply.TheVariants as wire
+use Rattle.session.specs.declared.session_end.SessionEnd.{SessionEnd}
+use Rattle.session.specs.declared.session_end.SessionEnd.TheVariants as ends
+use Rattle.session.specs.Printed.{reply_line}
+use Rattle.session.specs.Ends.{WroteFront, IsBroken, Wrote, wires}
+use Rattle.session.specs.Replies.{AnsweredLine, call_on_line, printed, lines_of_turns, asks_leave, is_standing_reply, parts}
+use Rattle.session.specs.UpLines.{Stop, Parting, Ending, Overlong, Breaking, end_by, last_by, EndsTalk, StopsAt, ReadsLines, PartsBy, Talk}
+use Rattle.session.specs.Parts.{Sends, AnswersLine, TakesLine, HasSaid, InTalk, HasTalked}
+use Rattle.session.proofs.WroteFront.{wrote_on, front_on, front_whole, front_more, at_end-nil, wrote_behind}
+use Rattle.session.proofs.AreReplies.{printed_more}
+use Rattle.session.proofs.HasSaid.{later_same, said_more, said_later}
+
+either : (P : Type 0) (b : Bool) → (b ≡ true → P) → (b ≡ false → P) → P
+either P true f g = f refl
+either P false f g = g refl
+
+-- ---- what was read
+
+reads_by : (stop : Stop) (end : SessionEnd) (limit : ℕ) (read : List (List ℕ)) (before left after : Option (List ℕ)) → IfSome before (λ bytes. (rest : List ℕ) × (lines bytes ≡ read ++ lines rest) × (left ≡ Some rest))
+    → ((rest : List ℕ) → left ≡ Some rest → StopsAt stop end limit rest after) → ReadsLines read stop end limit before after
+reads_by stop end limit read None left after h f = tt
+reads_by stop end limit read (Some bytes) left after h f = (h.0, h.1, f h.0 h.2)
+
+-- ---- the ends
+
+module _ (limit who : ℕ) (over : SessionEnd) (s : DeskSeatValue) (before old : Option (List ℕ)) where
+  talked : (t : DeskSeatValue) (left after new : Option (List ℕ)) (ts : List AnsweredLine) (stop : Stop) (end : SessionEnd) → HasSaid limit who s t before left ts → ((rest : List ℕ) → left ≡ Some rest → StopsAt stop end limit rest after)
+      → Wrote (end_by over stop (2 + length ts)) end (printed ts ++ last_by stop (2 + length ts)) old new → PartsBy stop ts → HasTalked limit who over s t [] end (wires before after old new)
+  talked t left after new ts stop end said stops wrote parting = record {
+    turns = ts;
+    later = said.later;
+    own = said.own;
+    talk = record {
+      stop = stop;
+      replies = said.replies;
+      short = said.short;
+      reads = reads_by stop end limit (lines_of_turns ts) before left after said.read stops;
+      wrote = wrote;
+      parting = parting;
+    };
+  }
+
+  all_written : (so : SessionEnd) (ts : List AnsweredLine) (new : Option (List ℕ)) → new ≡ at_end old (printed ts) → Wrote so so (printed ts ++ []) old new
+  all_written so ts new wrote = inl (refl, wrote ∙ ap (at_end old) (sym (append-nil (printed ts))))
+
+  cut_off : (so end : SessionEnd) (ts : List AnsweredLine) (new : Option (List ℕ)) → IsBroken end → WroteFront (printed ts) old new → Wrote so end (printed ts ++ []) old new
+  cut_off so end ts new b f = inr (b, front_more old new (printed ts) [] f)
+
+  module _ (t : DeskSeatValue) (left new : Option (List ℕ)) (number : ℕ) (talk : InTalk limit who s t before left old new number) where
+    -- no byte is left
+    pub ended : (after : Option (List ℕ)) → IfSome left (λ bytes. (bytes ≡ []) × (after ≡ Some [])) → HasTalked limit who over s t [] over (wires before after old new)
+    ended after e =
+        talked t left after new talk.turns Ending over talk.said (λ rest is. subst (λ o. IfSome o (λ bytes. (bytes ≡ []) × (after ≡ Some []))) is e) (all_written over talk.turns new talk.wrote) talk.goes_on
+
+    -- the next line is over the limit
+    pub overlong : (end : SessionEnd) (after new' : Option (List ℕ)) → IfSome left (EndsTalk limit) → Wrote (ends.Long number) end (reply_line (wire.Long number)) new new' → HasTalked limit who over s t [] end (wires before after old new')
+    overlong end after new' e wrote =
+        talked t left after new' talk.turns Overlong end talk.said (λ rest is. subst (λ o. IfSome o (EndsTalk limit)) is e)
+        (subst (λ n. Wrote (ends.Long n) end (printed talk.turns ++ reply_line (wire.Long n)) old new') talk.count (wrote_behind (ends.Long number) end (printed talk.turns) (reply_line (wire.Long number)) old new new' talk.wrote wrote)) talk.goes_on
+
+    -- the read failed, or found no memory
+    pub broken : (end : SessionEnd) → IsBroken end → (after : Option (List ℕ)) → IfSome left (λ bytes. after ≡ Some bytes) → HasTalked limit who over s t [] end (wires before after old new)
+    broken end b after same =
+        talked t left after new talk.turns Breaking end talk.said (λ rest is. inl (subst (λ o. IfSome o (λ bytes. after ≡ Some bytes)) is same))
+        (cut_off ends.Memory end talk.turns new b (front_whole old new (printed talk.turns) talk.wrote)) talk.goes_on
+
+    -- so many lines were answered that the next has no number
+    pub run_out : HasTalked limit who over s t [] ends.Memory (wires before left old new)
+    run_out =
+        talked t left left new talk.turns Breaking ends.Memory talk.said (λ rest is. inl is) (cut_off ends.Memory ends.Memory talk.turns new tt (front_whole old new (printed talk.turns) talk.wrote)) talk.goes_on
+
+    module _ (u : DeskSeatValue) (left' new' : Option (List ℕ)) (line : List ℕ) (later : IsLater t u) (short : length line ≤ limit) (next : IfSome left (λ bytes. (rest : List ℕ) × (left' ≡ Some rest) × (lines bytes ≡ line ∷ lines rest))) where
+      -- a line was read, and then memory was wanting
+      pub starved : u.own ≡ t.own → new' ≡ new → HasTalked limit who over s u [] ends.Memory (wires before left' old new')
+      starved own same =
+          talked u left left' new' talk.turns Breaking ends.Memory (said_later limit who s t u before left talk.turns talk.said later own)
+          (λ rest is. inr (refl, (let n = subst (λ o. IfSome o (λ bytes. (rest : List ℕ) × (left' ≡ Some rest) × (lines bytes ≡ line ∷ lines rest))) is next in (line, n.0, n.2, n.1))))
+          (cut_off ends.Memory ends.Memory talk.turns new' tt (front_whole old new' (printed talk.turns) (same ∙ talk.wrote))) talk.goes_on
+
+      module _ (r : WireReply) (answers : AnswersLine who number (call_on_line line) t r u) where
+        more : (log : List Row) × HasSaid limit who s u before left' (talk.turns ++ record { line = line; log = log; reply = r } ∷ [])
+        more = said_more limit who number s t u before left left' talk.turns line r talk.said talk.count answers later short next
+
+        abbrev turn : AnsweredLine
+        turn = record { line = line; log = more.0; reply = r }
+
+        abbrev turns : List AnsweredLine
+        turns = talk.turns ++ turn ∷ []
+
+        all_wrote : new' ≡ at_end new (reply_line r) → new' ≡ at_end old (printed turns)
+        all_wrote e = wrote_on old new new' (printed talk.turns) (reply_line r) talk.wrote e ∙ ap (at_end old) (sym (printed_more turn talk.turns))
+
+        front_wrote : WroteFront (reply_line r) new new' → WroteFront (printed turns) old new'
+        front_wrote f = subst (λ p. WroteFront p old new') (sym (printed_more turn talk.turns)) (front_on old new new' (printed talk.turns) (reply_line r) talk.wrote f)
+
+        none_parts : (asks_leave (call_on_line line) && is_standing_reply r) ≡ false → list_any parts turns ≡ false
+        none_parts e = list_any-append parts talk.turns (turn ∷ []) ∙ (λ i. talk.goes_on i || (e i || false))
+
+        -- the reply was cut
+        pub cut : (end : SessionEnd) → IsBroken end → WroteFront (reply_line r) new new' → HasTalked limit who over s u [] end (wires before left' old new')
+        cut end b f =
+            either (HasTalked limit who over s u [] end (wires before left' old new')) (asks_leave (call_on_line line) && is_standing_reply r)
+            (λ e. talked u left' left' new' turns Parting end more.1 (λ rest is. is) (cut_off ends.Left end turns new' b (front_wrote f))
+            (record {
+              earlier = talk.turns;
+              last = turn;
+              split = refl;
+              goes_on = talk.goes_on;
+              leaves = e;
+            }))
+            (λ e. talked u left' left' new' turns Breaking end more.1 (λ rest is. inl is) (cut_off ends.Memory end turns new' b (front_wrote f)) (none_parts e))
+
+        -- and it goes on
+        pub goes_on : new' ≡ at_end new (reply_line r) → (asks_leave (call_on_line line) && is_standing_reply r) ≡ false → InTalk limit who s u before left' old new' (number + 1)
+        goes_on e stays = record {
+          turns = turns;
+          said = more.1;
+          goes_on = none_parts stays;
+          count = (let l = length-append talk.turns (turn ∷ []) in let c = talk.count in omega (arith, l, c));
+          wrote = all_wrote e;
+        }
+
+        -- a leave stands in the log
+        pub parted : new' ≡ at_end new (reply_line r) → (asks_leave (call_on_line line) && is_standing_reply r) ≡ true → HasTalked limit who over s u [] ends.Left (wires before left' old new')
+        parted e leaves =
+            talked u left' left' new' turns Parting ends.Left more.1 (λ rest is. is) (all_written ends.Left turns new' (all_wrote e))
+            (record {
+              earlier = talk.turns;
+              last = turn;
+              split = refl;
+              goes_on = talk.goes_on;
+              leaves = leaves;
+            })
+
+-- ---- by what the parts of a session say
+
+module _ (limit who : ℕ) (over : SessionEnd) (s : DeskSeatValue) (before old : Option (List ℕ)) (t : DeskSeatValue) (left new : Option (List ℕ)) (number : ℕ) (talk : InTalk limit who s t before left old new number) where
+  -- the line was read, and what was read is the text; what was taken before the turn is what was taken before the read
+  module _ (u : DeskSeatValue) (mid left' start new' : Option (List ℕ)) (text line : List ℕ) (later : IsLater t u) (next : IfSome left (λ bytes. (rest : List ℕ) × (mid ≡ Some rest) × (lines bytes ≡ text ∷ lines rest) × (length text ≤ limit))) (short : length text ≤ limit)
+      (same : left' ≡ mid) (as_read : line ≡ text) (untouched : start ≡ new) where
+    short' : length line ≤ limit
+    short' = subst (λ l. length l ≤ limit) (sym as_read) short
+
+    next' : IfSome left (λ bytes. (rest : List ℕ) × (left' ≡ Some rest) × (lines bytes ≡ line ∷ lines rest))
+    next' = subst (λ (x : Option (List ℕ) × List ℕ). IfSome left (λ bytes. (rest : List ℕ) × (x.0 ≡ Some rest) × (lines bytes ≡ x.1 ∷ lines rest))) (sym (λ i. (same i, as_read i))) (fewer left next)
+      where
+        fewer : (o : Option (List ℕ)) → IfSome o (λ bytes. (rest : List ℕ) × (mid ≡ Some rest) × (lines bytes ≡ text ∷ lines rest) × (length text ≤ limit)) → IfSome o (λ bytes. (rest : List ℕ) × (mid ≡ Some rest) × (lines bytes ≡ text ∷ lines rest))
+        fewer None h = tt
+        fewer (Some bytes) h = (h.0, h.1, h.2)
+
+    from : (result : Result Bool SessionEnd) → TakesLine result who number line t u start new' → TakesLine result who number line t u new new'
+    from result h = subst (λ o. TakesLine result who number line t u o new') untouched h
+
+    -- the turn was cut
+    pub turn_failed : (end : SessionEnd) → TakesLine (Err end) who number line t u start new' → HasTalked limit who over s u [] end (wires before left' old new')
+    turn_failed end raw =
+        let h = from (Err end) raw in
+        ⊎_elim (λ c. cut limit who over s before old t left new number talk u left' new' line later short' next' c.0 c.1 end h.0 c.2)
+        (λ m. subst (λ e. HasTalked limit who over s u [] e (wires before left' old new')) (sym m.0) (starved limit who over s before old t left new number talk u left' new' line later short' next' m.1 m.2)) h.1
+
+    -- it was a leave that stands in the log
+    pub turn_parts : TakesLine (Ok true) who number line t u start new' → HasTalked limit who over s u [] ends.Left (wires before left' old new')
+    turn_parts raw =
+        let h = from (Ok true) raw in
+        parted limit who over s before old t left new number talk u left' new' line later short' next' h.0 h.1 h.2 (sym h.3)
+
+    -- and the session goes on
+    pub turn_done : TakesLine (Ok false) who number line t u start new' → InTalk limit who s u before left' old new' (number + 1)
+    turn_done raw =
+        let h = from (Ok false) raw in
+        goes_on limit who over s before old t left new number talk u left' new' line later short' next' h.0 h.1 h.2 (sym h.3)
+
+  module _ (left' start new' : Option (List ℕ)) (untouched : start ≡ new) where
+    -- the reply to a line over the limit was written
+    pub long_sent : IfSome left (EndsTalk limit) → Sends (Ok tt) (reply_line (wire.Long number)) start new' → HasTalked limit who over s t [] (ends.Long number) (wires before left' old new')
+    long_sent long sent = overlong limit who over s before old t left new number talk (ends.Long number) left' new' long (inl (refl, sent ∙ ap (λ o. at_end o (reply_line (wire.Long number))) untouched))
+
+    -- it was cut
+    pub long_cut : (end : SessionEnd) → IfSome left (EndsTalk limit) → Sends (Err end) (reply_line (wire.Long number)) start new' → HasTalked limit who over s t [] end (wires before left' old new')
+    long_cut end long sent =
+        overlong limit who over s before old t left new number talk end left' new' long
+        (inr (sent.0, subst (λ o. WroteFront (reply_line (wire.Long number)) o new') untouched sent.1))
+
+    -- no line was read
+    pub no_line : (end : SessionEnd) → IsBroken end → IfSome left (λ bytes. left' ≡ Some bytes) → start ≡ new' → HasTalked limit who over s t [] end (wires before left' old new')
+    no_line end b same still =
+        subst (λ o. HasTalked limit who over s t [] end (wires before left' old o)) (sym untouched ∙ still) (broken limit who over s before old t left new number talk end b left' same)
+
+    -- no byte is left
+    pub at_end_of_bytes : IfSome left (λ bytes. (bytes ≡ []) × (left' ≡ Some [])) → start ≡ new' → HasTalked limit who over s t [] over (wires before left' old new')
+    at_end_of_bytes e still =
+        subst (λ o. HasTalked limit who over s t [] over (wires before left' old o)) (sym untouched ∙ still) (ended limit who over s before old t left new number talk left' e)
+
+-- nothing was answered yet
+pub opens : (limit who : ℕ) (s : DeskSeatValue) (left old : Option (List ℕ)) → InTalk limit who s s left left old old 2
+opens limit who s left old = record {
+  turns = [];
+  said = record {
+    later = later_same s;
+    replies = begins_same s.seen s.seen refl;
+    own = sym (append-nil s.own);
+    short = tt;
+    read = unread left;
+  };
+  goes_on = refl;
+  count = refl;
+  wrote = at_end-nil old;
+}
+  where
+    unread : (left : Option (List ℕ)) → IfSome left (λ bytes. (rest : List ℕ) × (lines bytes ≡ [] ++ lines rest) × (left ≡ Some rest))
+    unread None = tt
+    unread (Some bytes) = (bytes, refl, refl)
+
+-- ---- the opening's reply
+
+-- it was written, and then the others
+pub attended : (limit who : ℕ) (over : SessionEnd) (s t : DeskSeatValue) (first : List ℕ) (end : SessionEnd) (start before after old mid new : Option (List ℕ)) → before ≡ start → mid ≡ at_end old first
+    → HasTalked limit who over s t [] end (wires before after mid new) → HasTalked limit who over s t first end (wires start after old new)
+attended limit who over s t first end start before after old mid new same sent h =
+    let talk = subst (λ o. Talk limit s.number who over s.seen t.seen h.turns [] end (wires o after mid new)) same h.talk in
+    record {
+      turns = h.turns;
+      later = h.later;
+      own = h.own;
+      talk = record {
+        stop = talk.stop;
+        replies = talk.replies;
+        short = talk.short;
+        reads = talk.reads;
+        wrote = wrote_behind (end_by over talk.stop (2 + length h.turns)) end first (printed h.turns ++ last_by talk.stop (2 + length h.turns)) old mid new sent talk.wrote;
+        parting = talk.parting;
+      };
+    }
+
+-- it was cut
+pub cut_short : (limit who : ℕ) (over : SessionEnd) (s : DeskSeatValue) (first : List ℕ) (end : SessionEnd) (left after old new : Option (List ℕ)) → Sends (Err end) first old new → after ≡ left → HasTalked limit who over s s first end (wires left after old new)
+cut_short limit who over s first end left after old new sends same = record {
+  turns = [];
+  later = later_same s;
+  own = sym (append-nil s.own);
+  talk = record {
+    stop = Breaking;
+    replies = begins_same s.seen s.seen refl;
+    short = tt;
+    reads = unread left same;
+    wrote = inr (sends.0, front_more old new first [] sends.1);
+    parting = refl;
+  };
+}
+  where
+    unread : (left : Option (List ℕ)) → after ≡ left → ReadsLines [] Breaking end limit left after
+    unread None same = tt
+    unread (Some bytes) same = (bytes, refl, inl same)

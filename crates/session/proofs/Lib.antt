@@ -1,0 +1,14 @@
+pub mod WroteFront
+pub mod AreReplies
+pub mod ReadsOn
+pub mod HasSaid
+pub mod HasTalked
+pub mod UpLine
+pub mod PositionFrom
+pub mod IsJoinAt
+pub mod AreEntries
+pub mod Follows
+pub mod OpensSession
+pub mod AreTrue
+pub mod IsDenied
+pub mod Session

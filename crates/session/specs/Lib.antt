@@ -1,0 +1,9 @@
+pub mod Printed
+pub mod Ends
+pub mod Replies
+pub mod UpLines
+pub mod DownLines
+pub mod Sessions
+pub mod Parts
+pub mod Shown
+pub mod Truths
