@@ -1,0 +1,51 @@
+-- Links that are taken from a door, one after the other.
+use Rattle.std.proofs.Common.{◌≡◌, ℕ, ◌+◌, List, [], ◌∷◌, ◌++◌, length, refl, sym, ap, ◌∙◌, arith, length-append, append_assoc, Option, Some, None, option_map}
+use Rattle.std.proofs.lemmas.List.{append-nil}
+use Rattle.troop_ports.specs.Doors.{first_of}
+use Rattle.link_queue.specs.Ends.{LinkEndValue, having_moved}
+use Rattle.server_crew.specs.Accepting.{and_more, InTaking}
+
+and_none : (rest : Option ℕ) → rest ≡ and_more 0 rest
+and_none None = refl
+and_none (Some k) = ap Some (omega arith)
+
+and_one : (n : ℕ) (rest : Option ℕ) → and_more n (and_more 1 rest) ≡ and_more (n + 1) rest
+and_one n None = refl
+and_one n (Some k) = ap Some (omega arith)
+
+module _ {L : Type 0} where
+  in_front_none : (told : Option (List L)) → told ≡ option_map (λ others. [] ++ others) told
+  in_front_none None = refl
+  in_front_none (Some l) = refl
+
+  in_front_more : (links : List L) (link : L) (told : Option (List L)) → option_map (λ others. links ++ others) (first_of link told) ≡ option_map (λ others. (links ++ link ∷ []) ++ others) told
+  in_front_more links link None = refl
+  in_front_more links link (Some l) = ap Some (sym (append_assoc links (link ∷ []) l))
+
+  -- none was taken
+  pub taking_none : (sessions : Option ℕ) (told : Option (List L)) (v : LinkEndValue L) (places : ℕ) → InTaking sessions sessions told told v v places places
+  taking_none sessions told v places = record {
+    links = [];
+    moved = record { queue = refl; parts = refl; put = sym (append-nil v.put); taken = refl; from = in_front_none told; places_are = omega arith };
+    left = and_none sessions;
+  }
+
+  -- one more was taken
+  pub taking_more : (sessions rest rest' : Option ℕ) (old mid new : Option (List L)) (v w w' : LinkEndValue L) (places p p' : ℕ) (link : L) → InTaking sessions rest old mid v w places p → mid ≡ first_of link new → w' ≡ having_moved w (w.put ++ link ∷ []) w.taken → p' ≡ p + 1 → rest ≡ and_more 1 rest'
+      → InTaking sessions rest' old new v w' places p'
+  taking_more sessions rest rest' old mid new v w w' places p p' link t first moved one fewer =
+      let m = t.moved in
+      let count = length-append t.links (link ∷ []) in
+      let places_are = m.places_are in
+      record {
+        links = t.links ++ link ∷ [];
+        moved = record {
+          queue = ap (λ (e : LinkEndValue L). e.queue) moved ∙ m.queue;
+          parts = ap (λ (e : LinkEndValue L). e.parts) moved ∙ m.parts;
+          put = ap (λ (e : LinkEndValue L). e.put) moved ∙ (ap (λ l. l ++ link ∷ []) m.put ∙ append_assoc v.put t.links (link ∷ []));
+          taken = ap (λ (e : LinkEndValue L). e.taken) moved ∙ m.taken;
+          from = m.from ∙ (ap (λ told. option_map (λ others. t.links ++ others) told) first ∙ in_front_more t.links link new);
+          places_are = omega (arith, count, places_are, one);
+        };
+        left = t.left ∙ (ap (and_more (length t.links)) fewer ∙ (and_one (length t.links) rest' ∙ ap (λ n. and_more n rest') (omega (arith, count))));
+      }

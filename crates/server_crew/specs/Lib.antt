@@ -1,0 +1,5 @@
+pub mod Shifts
+pub mod Workers
+pub mod Accepting
+pub mod Crews
+pub mod Ready

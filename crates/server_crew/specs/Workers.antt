@@ -1,0 +1,34 @@
+-- Workers at their queue.
+use Rattle.std.specs.Prelude.{◌≡◌, ℕ, ◌<◌, List, [], Bool, Option, length, slice_index_or, map, flat_map}
+use Rattle.atomic_table.specs.Seated.{TableId}
+use Rattle.troop_hall.specs.Seats.{DeskHallValue, IsDeskSeat}
+use Rattle.server_crew.specs.declared.worker.Worker.{Worker}
+use Rattle.server_crew.specs.Shifts.{IsShift}
+
+module _ {L : Type 0} (remaining written : L → Option (List ℕ)) (faults : L → ℕ) (closed : L → Bool) (hall : DeskHallValue) (queue : TableId) where
+  -- it has a seat of the hall and an end of the queue with one part, has put nothing, has made no
+  -- seat, and has served the links that it took
+  pub record IsAtWork (w : Worker L) : Type 0 where
+    pub seat : IsDeskSeat hall w.shift.seat
+    pub queue_is : w.end.queue ≡ queue
+    pub part : w.end.parts ≡ 1
+    pub put : w.end.put ≡ []
+    pub made : w.shift.seat.made ≡ []
+    pub shift : IsShift remaining written faults closed w.shift w.end.taken
+
+module _ {L : Type 0} where
+  -- the worker's seat is the same
+  abbrev pub IsSameSeat : Worker L → Worker L → Type 0
+  IsSameSeat v w = w.shift.seat.index ≡ v.shift.seat.index
+
+  -- each worker has the same seat as before
+  abbrev pub AreSameSeats : List (Worker L) → List (Worker L) → Type 0
+  AreSameSeats vs ws = (i : ℕ) (d : Worker L) → i < length vs → IsSameSeat (slice_index_or vs i d) (slice_index_or ws i d)
+
+  -- which seats they have
+  abbrev pub indexes : List (Worker L) → List ℕ
+  indexes ws = map (λ (w : Worker L). w.shift.seat.index) ws
+
+  -- the links that they took, worker by worker
+  abbrev pub all_taken : List (Worker L) → List L
+  all_taken ws = flat_map (λ (w : Worker L). w.end.taken) ws
