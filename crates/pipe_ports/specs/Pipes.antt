@@ -9,9 +9,9 @@ use Rattle.pipe_ports.specs.declared.hatch.Started.{Started}
 use Rattle.pipe_ports.specs.declared.hatch.Started.TheVariants as started
 
 -- how many of so many bytes a child takes that has this limit, if it is limited
-abbrev pub within_limit : Option ℕ → ℕ → ℕ
-within_limit None count = count
-within_limit (Some most) count = min count most
+abbrev pub bytes_within : Option ℕ → ℕ → ℕ
+bytes_within None count = count
+bytes_within (Some most) count = min count most
 
 -- what is left of the limit behind so many bytes
 abbrev pub limit_behind : Option ℕ → ℕ → Option ℕ
@@ -20,7 +20,7 @@ limit_behind limit count = option_map (λ most. most - count) limit
 -- a child that tells its limit fails exactly at the limit 0; else it takes all that the limit lets through, and the limit
 -- falls by as much
 abbrev pub FollowsLimit : Put → ℕ → Option (Option ℕ) → Option (Option ℕ) → Type 0
-FollowsLimit (put.Took n) count old new = IfSome old (λ limit. n ≡ within_limit limit count) × (new ≡ option_map (λ limit. limit_behind limit n) old)
+FollowsLimit (put.Took n) count old new = IfSome old (λ limit. n ≡ bytes_within limit count) × (new ≡ option_map (λ limit. limit_behind limit n) old)
 FollowsLimit put.Failed count old new = IfSome old (λ limit. limit ≡ Some 0) × (new ≡ old)
 
 -- how many bytes a write took

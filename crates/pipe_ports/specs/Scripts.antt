@@ -3,7 +3,7 @@ use Rattle.std.specs.Prelude.{◌≡◌, ◌<◌, IfSome, ℕ, zero, suc, ◌+�
 use Rattle.troop_ports.specs.Faults.{next_count}
 use Rattle.troop_ports.specs.declared.sink.Put.{Put}
 use Rattle.troop_ports.specs.declared.sink.Put.TheVariants as put
-use Rattle.pipe_ports.specs.Pipes.{within_limit, limit_behind}
+use Rattle.pipe_ports.specs.Pipes.{bytes_within, limit_behind}
 use Rattle.pipe_ports.specs.declared.child.Closing.{Closing}
 use Rattle.pipe_ports.specs.declared.child.Closing.TheVariants as closing
 use Rattle.pipe_ports.specs.declared.hatch.Started.{Started}
@@ -22,7 +22,7 @@ pub record ChildValue : Type 0 where
 -- the answer to a write of so many bytes under this limit: a fault at the limit 0, else all that the limit lets through
 abbrev pub put_within : Option ℕ → ℕ → Put
 put_within (Some zero) count = put.Failed
-put_within (Some (suc n)) count = put.Took (within_limit (Some (suc n)) count)
+put_within (Some (suc n)) count = put.Took (bytes_within (Some (suc n)) count)
 put_within None count = put.Took count
 
 -- the child after that answer to the write of a piece, with this room: it keeps what it took, and counts a fault

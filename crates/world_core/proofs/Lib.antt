@@ -1,0 +1,12 @@
+pub mod PerformerWith
+pub mod LastRow
+pub mod BlocksFed
+pub mod IsFedDriver
+pub mod IsKeptPerformer
+pub mod AsksFor
+pub mod NextEntry
+pub mod WorldAfter
+pub mod Again
+pub mod Steps
+pub mod IsWorld
+pub mod IsSoundWorld

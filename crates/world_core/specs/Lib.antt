@@ -1,0 +1,9 @@
+pub mod States
+pub mod Feeding
+pub mod Steps
+pub mod Sound
+pub mod Values
+pub mod WorldInvariant
+pub mod Asks
+pub mod Sending
+pub mod Moves
