@@ -1,8 +1,8 @@
 //! What came of a case.
 
 use crate::case::Case;
+use replay_run::replay;
 use std::alloc::{AllocError, Global};
-use troop_main::replay;
 use troop_ports::{BytesSink, BytesSource};
 
 /// How many bytes a run may print on each of its streams.

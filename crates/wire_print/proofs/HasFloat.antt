@@ -1,7 +1,5 @@
 -- No printed value has a float in it.
 use Rattle.std.proofs.Common.{◌≡◌, ℕ, zero, suc, List, [], ◌∷◌, map, false, refl, ap, ◌∙◌}
-use Rattle.std.specs.Prelude.{Vec}
-use Rattle.std.specs.declared.alloc.Global.{Global}
 use Rattle.serde_json.specs.View.{items_of}
 use Rattle.serde_json.specs.Data.{Members}
 use Rattle.serde_json.specs.Written.{has_float, items_have_float, members_have_float}
@@ -89,12 +87,12 @@ snapshot_has_none at m = rw (runs_have_none (map run_of (runs_of (marks_of m))))
 pub performer_has_none : (name : List ℕ) (who awaits taken : ℕ) (m : Marked) → has_float (performer_data name who awaits taken m) ≡ false
 performer_has_none name who awaits taken m = rw (runs_have_none (map run_of (runs_of (marks_of m))))
 
-lives_have_none : (lives : List (Vec ℕ Global)) → items_have_float (items_of (map life_data lives)) ≡ false
+lives_have_none : (lives : List (List ℕ)) → items_have_float (items_of (map life_data lives)) ≡ false
 lives_have_none [] = refl
 lives_have_none (life ∷ lives) = lives_have_none lives
 
 -- the line of lives has no float
-pub all_lives_have_none : (who : ℕ) (lives : List (Vec ℕ Global)) → has_float (lives_data who lives) ≡ false
+pub all_lives_have_none : (who : ℕ) (lives : List (List ℕ)) → has_float (lives_data who lives) ≡ false
 all_lives_have_none who lives = rw (lives_have_none lives)
 
 notes_have_none : (notes : List Note) → items_have_float (items_of (map note_data notes)) ≡ false

@@ -1,7 +1,6 @@
 -- The printed lines: serde_json's compact text, with the keys of each object in byte order, and a line feed.
-use Rattle.std.specs.Prelude.{ℕ, pos, neg_ℤ, Bool, true, List, [], ◌∷◌, ◌++◌, map, nat_le, ◌==◌, codes, encode_utf8_all, Vec, if◌then◌else◌}
+use Rattle.std.specs.Prelude.{ℕ, pos, neg_ℤ, Bool, true, List, [], ◌∷◌, ◌++◌, map, nat_le, ◌==◌, codes, encode_utf8_all, if◌then◌else◌}
 use Rattle.std.specs.List.{list_any}
-use Rattle.std.specs.declared.alloc.Global.{Global}
 use Rattle.hex.specs.Hex.{encode_lower}
 use Rattle.serde_json.specs.Data.{Data, boolean, number, unsigned, string, array, object, item, no_items, Members, member, no_members}
 use Rattle.serde_json.specs.Find.{of_integer}
@@ -149,11 +148,11 @@ abbrev pub blank_data : ℕ → Data
 blank_data place = object (member (codes "no") (word_data (codes "blank")) (member (codes "place") (count_data place) no_members))
 
 -- a life's bytes in lower-case hexadecimal
-abbrev pub life_data : Vec ℕ Global → Data
-life_data life = string (encode_lower life.items)
+abbrev pub life_data : List ℕ → Data
+life_data life = string (encode_lower life)
 
 -- the lives of a performer's interpreter
-abbrev pub lives_data : ℕ → List (Vec ℕ Global) → Data
+abbrev pub lives_data : ℕ → List (List ℕ) → Data
 lives_data who lives = object (member (codes "lives") (array (items_of (map life_data lives))) (member (codes "who") (count_data who) no_members))
 
 -- a note of a journal

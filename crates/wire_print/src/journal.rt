@@ -11,7 +11,7 @@ use troop_entry::Note;
 
 /// The line of the lives of a performer's interpreter: the bytes of each, in order.
 pub fn print_lives(alloc: Global, who: u32, lives: &[Vec<u8>]) -> Result<Vec<u8>, AllocError>
-    ensures { IfOk result (λ line. line.items ≡ printed_line (lives_data who lives.now)) }
+    ensures { IfOk result (λ line. line.items ≡ printed_line (lives_data who (map (λ life. life.items) lives.now))) }
 {
     let value = lives_object(alloc, who, lives)?;
     print_value(alloc, &value)
@@ -27,7 +27,7 @@ pub fn print_journal(alloc: Global, who: u32, notes: &[Note]) -> Result<Vec<u8>,
 
 // The object of the lives.
 fn lives_object(alloc: Global, who: u32, lives: &[Vec<u8>]) -> Result<Value, AllocError>
-    ensures { IfOk result (λ v. view v ≡ lives_data who lives.now) }
+    ensures { IfOk result (λ v. view v ≡ lives_data who (map (λ life. life.items) lives.now)) }
 {
     let lives = lives_value(alloc, lives)?;
     json!(in alloc; {"lives": lives, "who": who})
@@ -43,7 +43,7 @@ fn journal_object(alloc: Global, who: u32, notes: &[Note]) -> Result<Value, Allo
 
 // The lives as an array.
 fn lives_value(alloc: Global, lives: &[Vec<u8>]) -> Result<Value, AllocError>
-    ensures { IfOk result (λ v. view v ≡ array (items_of (map life_data lives.now))) }
+    ensures { IfOk result (λ v. view v ≡ array (items_of (map life_data (map (λ life. life.items) lives.now)))) }
 {
     let mut items = Vec::new(alloc);
     for life in lives {
@@ -53,10 +53,10 @@ fn lives_value(alloc: Global, lives: &[Vec<u8>]) -> Result<Value, AllocError>
 }
 
 // The bytes of a life in lower-case hexadecimal.
-fn life_value(alloc: Global, life: &Vec<u8>) -> Result<Value, AllocError>
+fn life_value(alloc: Global, life: &[u8]) -> Result<Value, AllocError>
     ensures { IfOk result (λ v. view v ≡ life_data life.now) }
 {
-    Ok(Value::String(hex::encode(alloc, life.as_slice())?))
+    Ok(Value::String(hex::encode(alloc, life)?))
 }
 
 // The notes as an array.

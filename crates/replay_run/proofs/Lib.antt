@@ -1,0 +1,5 @@
+mod Reports
+mod InPlay
+mod Exactly
+mod FirstStop
+mod ShownPerformers

@@ -1,0 +1,16 @@
+use Rattle.std.proofs.Common.{◌≡◌, sym, ap, ◌∙◌}
+use Rattle.world_core.specs.Values.{state_of}
+use Rattle.replay_run.specs.declared.meaning.Meaning.TheVariants as meaning
+use Rattle.replay_run.specs.Script.{meaning_of, shown_meaning, stop_by}
+use Rattle.replay_run.specs.Ports.{port_of}
+use Rattle.replay_run.proofs.Reports.{took_part_of}
+use Rattle.replay_run.proofs.runs.play_line.Goals as goal
+
+pub returns-clause-plays : goal.returns-clause-plays
+returns-clause-plays g c =
+    let is_step : meaning.Step c.in-Ok-Step.step ≡ meaning_of c.args.line.now = rw c.in-Ok-Step.field-0-is at c.in-Ok-Step.ensures in (
+      sym (ap (stop_by c.args.number) is_step),
+      c.in-Part.ensures.cause,
+      took_part_of c.in-Part.field-0 c.deref.result.now _ (port_of (g.O.Sink.taken c.args.out.now) (g.O.Sink.taken c.write_all.new.sink) 0 0)
+          (c.deref.ensures.value ∙ c.in-Ok.ensures.shown ∙ ap (shown_meaning c.args.number (state_of c.args.world.now)) is_step) c.in-Part.ensures.bytes.1,
+    )
