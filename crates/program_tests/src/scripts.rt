@@ -1,8 +1,9 @@
 //! What no file shows: the words, the limit of the input, and streams that come in pieces, fail or have no room.
+use replay_run::{Outcome, faults_exactly, first_stop_law, replay_upto, replays_exactly};
 use std::alloc::Global;
 use std::test::Fail;
-use troop_main::{Outcome, faults_exactly, first_stop_law, replay_upto, replays_exactly, troop};
-use troop_ports::{BytesSink, BytesSource};
+use troop_main::troop;
+use troop_ports::{BytesLink, BytesSink, BytesSource, ListDoor, ListNet};
 
 /// A run's limit and how its streams behave, and then what it comes to.
 #[derive(Clone, Copy)]
@@ -128,7 +129,7 @@ fn limit_and_streams_decide_how_a_run_ends(rt: HostRuntime) -> Result<(), Fail> 
     Ok(())
 }
 
-fn words_of(alloc: Global, words: &[&str]) -> Result<Vec<String>, Fail> {
+pub fn words_of(alloc: Global, words: &[&str]) -> Result<Vec<String>, Fail> {
     let mut owned = Vec::new(alloc);
     for word in words {
         owned.push(String::from_str(alloc, word)?)?;
@@ -136,12 +137,11 @@ fn words_of(alloc: Global, words: &[&str]) -> Result<Vec<String>, Fail> {
     Ok(owned)
 }
 
-const WORDS: [(&[&str], u8); 5] = [
+const WORDS: [(&[&str], u8); 4] = [
     (&["replay"], 0),
     (&[], 2),
     (&["replay", "now"], 2),
     (&["dance"], 2),
-    (&["serve", "a", "--sessions", "1", "--sessions", "1"], 2),
 ];
 
 #[test]
@@ -151,7 +151,17 @@ fn words_choose_the_command(rt: HostRuntime) -> Result<(), Fail> {
         let mut input = BytesSource::new(rt.alloc(), SCRIPT.as_bytes(), &[], &[])?;
         let mut out = BytesSink::new(rt.alloc(), 100, &[])?;
         let mut err = BytesSink::new(rt.alloc(), 100, &[])?;
-        let status = troop(rt.alloc(), &words, &mut input, &mut out, &mut err);
+        let doors = Vec::<ListDoor<BytesLink>>::new(rt.alloc());
+        let mut net = ListNet::new(rt.alloc(), doors, Vec::<BytesLink>::new(rt.alloc()), &[])?;
+        let status = troop(
+            &rt,
+            rt.alloc(),
+            &words,
+            &mut input,
+            &mut out,
+            &mut err,
+            &mut net,
+        );
         assert_eq!(rt; status.code, *code);
         let line = if *code == 0 { "" } else { "troop: usage\n" };
         assert_eq!(rt; err.bytes(), line.as_bytes());
@@ -164,5 +174,5 @@ fn each_law_is_called(rt: HostRuntime) {
     first_stop_law();
     replays_exactly();
     faults_exactly();
-    assert_eq!(rt; Outcome::TooMuch.status().code, 10);
+    assert_eq!(rt; Outcome::NetFault.status().code, 6);
 }

@@ -1,4 +1,2 @@
-mod Reports
-mod InPlay
-mod Exactly
-mod FirstStop
+pub mod SessionsOf
+pub mod SaysServed

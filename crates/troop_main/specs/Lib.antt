@@ -1,8 +1,2 @@
-pub mod Steps
-pub mod Script
-pub mod Ports
 pub mod Words
-pub mod Outcome
-pub mod Runs
-pub mod Turns
-pub mod Laws
+pub mod Serving

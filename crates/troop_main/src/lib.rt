@@ -1,20 +1,12 @@
-//! The program, but for its real streams: the words, the script, and what is printed of it.
+//! The program, but for its real streams and its real net: what its words ask.
 //!
-//! A script is played line by line, and what a step prints is written before the next line is read. The clause of `troop` on
-//! the word `replay` is the table of statuses of `replay`: each with its cause and with what was written. The laws beside it say
-//! that the statuses are exact.
+//! The clause of `troop` on the word `replay` is that of `replay`: the table of its statuses. On the word `serve` it is the table of
+//! a server's: the door that the net tells as shut was served as `serve` of server_crew says, and the line of the closed log was
+//! written where the status is 0.
 #![tactic(auto)]
 
-mod laws;
-mod meaning;
-mod outcome;
-mod report;
-mod runs;
-mod steps;
+mod serving;
 mod top;
 mod words;
 
-pub use laws::{faults_exactly, first_stop_law, replays_exactly};
-pub use outcome::Outcome;
-pub use runs::{replay, replay_upto};
 pub use top::troop;

@@ -1,0 +1,216 @@
+//! Servers by their words: the statuses, the line at the end, and the door that comes back.
+ghost use Rattle.std.specs.Prelude.{◌≡◌, false, IfOk};
+
+use crate::scripts::words_of;
+use std::alloc::Global;
+use std::test::Fail;
+use troop_main::troop;
+use troop_ports::{BytesLink, BytesSink, BytesSource, ListDoor, ListNet};
+
+/// A join, and an edit that changes nothing.
+const LINES: &[u8] =
+    b"{\"call\":\"join\",\"lang\":\"lines\",\"name\":\"ann\"}\n{\"call\":\"edit\",\"op\":[],\"seen\":0}\n";
+
+/// Words, which calls fail, and then what a server of one door with two such links comes to.
+#[derive(Clone, Copy)]
+struct Evening {
+    words: &'static [&'static str],
+    /// The numbers of the net's failing calls.
+    listens: &'static [u64],
+    /// The numbers of the door's failing calls.
+    accepts: &'static [u64],
+    /// The numbers of failing writes.
+    writes: &'static [u64],
+    /// The output's room.
+    room: u64,
+    code: u8,
+    out: &'static str,
+    err: &'static str,
+    /// How many links came back to doors that came back.
+    retired: usize,
+    /// How many doors came back.
+    shut: usize,
+}
+
+const BOTH: Evening = Evening {
+    words: &["serve", "here"],
+    listens: &[],
+    accepts: &[],
+    writes: &[],
+    room: 100,
+    code: 0,
+    out: "{\"entries\":6,\"marks\":[],\"text\":\"\"}\n",
+    err: "",
+    retired: 2,
+    shut: 1,
+};
+
+const ONE: Evening = Evening {
+    out: "{\"entries\":3,\"marks\":[],\"text\":\"\"}\n",
+    retired: 1,
+    ..BOTH
+};
+
+const USAGE: Evening = Evening {
+    code: 2,
+    out: "",
+    err: "troop: usage\n",
+    retired: 0,
+    shut: 0,
+    ..BOTH
+};
+
+const WRITE_FAULT: Evening = Evening {
+    code: 5,
+    out: "",
+    err: "troop: write fault\n",
+    ..BOTH
+};
+
+const NET_FAULT: Evening = Evening {
+    code: 6,
+    out: "",
+    err: "troop: net fault\n",
+    ..BOTH
+};
+
+const EVENINGS: &[Evening] = &[
+    BOTH,
+    Evening {
+        words: &["serve", "here", "--sessions", "1"],
+        ..ONE
+    },
+    Evening {
+        words: &["serve", "--sessions=00000000000000000001", "here"],
+        ..ONE
+    },
+    Evening {
+        words: &["serve", "--sessions", "1000000", "here"],
+        ..BOTH
+    },
+    Evening {
+        words: &["serve", "here", "--sessions=0"],
+        out: "{\"entries\":0,\"marks\":[],\"text\":\"\"}\n",
+        retired: 0,
+        ..BOTH
+    },
+    Evening {
+        writes: &[1],
+        ..WRITE_FAULT
+    },
+    Evening {
+        room: 5,
+        out: "{\"ent",
+        ..WRITE_FAULT
+    },
+    Evening {
+        listens: &[1],
+        retired: 0,
+        shut: 0,
+        ..NET_FAULT
+    },
+    Evening {
+        accepts: &[2],
+        retired: 1,
+        ..NET_FAULT
+    },
+    Evening {
+        words: &["serve"],
+        ..USAGE
+    },
+    Evening {
+        words: &["serve", ""],
+        ..USAGE
+    },
+    Evening {
+        words: &["serve", "-here"],
+        ..USAGE
+    },
+    Evening {
+        words: &["serve", "here", "there"],
+        ..USAGE
+    },
+    Evening {
+        words: &["serve", "here", "--sessions"],
+        ..USAGE
+    },
+    Evening {
+        words: &["serve", "--sessions", "1"],
+        ..USAGE
+    },
+    Evening {
+        words: &["serve", "here", "--sessions", "+1"],
+        ..USAGE
+    },
+    Evening {
+        words: &["serve", "here", "--sessions="],
+        ..USAGE
+    },
+    Evening {
+        words: &["serve", "here", "--sessions", "1000001"],
+        ..USAGE
+    },
+    Evening {
+        words: &["serve", "here", "--sessions", "99999999999999999999"],
+        ..USAGE
+    },
+    Evening {
+        words: &["serve", "here", "--sessions", "000000000000000000001"],
+        ..USAGE
+    },
+    Evening {
+        words: &["serve", "here", "--sessions=1", "--sessions=1"],
+        ..USAGE
+    },
+    Evening {
+        words: &["serve", "--", "here"],
+        ..USAGE
+    },
+];
+
+// A link that gives these lines.
+fn link(alloc: Global) -> Result<BytesLink, Fail>
+    ensures { IfOk result (λ link. link.is_closed ≡ false) }
+{
+    Ok(BytesLink::new(alloc, LINES, &[], &[], 1 << 16, &[])?)
+}
+
+// A door with two such links.
+fn door(alloc: Global, fails: &[u64]) -> Result<ListDoor<BytesLink>, Fail> {
+    let first = link(alloc)?;
+    let second = link(alloc)?;
+    let links = vec![in alloc; first, second]?;
+    Ok(ListDoor::new(alloc, links, fails)?)
+}
+
+#[test]
+fn words_and_faults_decide_how_a_server_ends(rt: HostRuntime) -> Result<(), Fail> {
+    for evening in EVENINGS {
+        let words = words_of(rt.alloc(), evening.words)?;
+        let doors = vec![in rt.alloc(); door(rt.alloc(), evening.accepts)?]?;
+        let links = Vec::<BytesLink>::new(rt.alloc());
+        let mut net = ListNet::new(rt.alloc(), doors, links, evening.listens)?;
+        let mut input = BytesSource::new(rt.alloc(), b"[]\n", &[], &[])?;
+        let mut out = BytesSink::new(rt.alloc(), evening.room, evening.writes)?;
+        let mut err = BytesSink::new(rt.alloc(), 100, &[])?;
+        let status = troop(
+            &rt,
+            rt.alloc(),
+            &words,
+            &mut input,
+            &mut out,
+            &mut err,
+            &mut net,
+        );
+        assert_eq!(rt; status.code, evening.code);
+        assert_eq!(rt; out.bytes(), evening.out.as_bytes());
+        assert_eq!(rt; err.bytes(), evening.err.as_bytes());
+        assert_eq!(rt; net.shut_doors().len(), evening.shut);
+        let retired = net
+            .shut_doors()
+            .first()
+            .map_or(0, |door| door.retired().len());
+        assert_eq!(rt; retired, evening.retired);
+    }
+    Ok(())
+}

@@ -1,0 +1,115 @@
+-- The table of `serve`: what each outcome says of the net and of the output.
+use Rattle.std.specs.Prelude.{◌≡◌, ℕ, ◌⊎◌, List, length, Bool, Option}
+use Rattle.troop_entry.specs.declared.row.Row.{Row}
+use Rattle.log_model.specs.Log.{doc}
+use Rattle.log_model.specs.Legal.{IsLegal}
+use Rattle.wire_print.specs.Printed.{printed_line, server_data}
+use Rattle.troop_ports.specs.Faults.{Counted, AddsCount}
+use Rattle.troop_ports.specs.Doors.{first_of, and_last}
+use Rattle.server_crew.specs.Accepting.{HasEnough}
+use Rattle.server_crew.specs.Crews.{IsRun}
+use Rattle.replay_run.specs.declared.outcome.Outcome.{Outcome}
+use Rattle.replay_run.specs.declared.outcome.Outcome.TheVariants as outcome
+use Rattle.replay_run.specs.Outcome.{code_of, error_line}
+use Rattle.replay_run.specs.Ports.{Port, IsCalm, IsFaulted, Took, TookPrefix, Reported}
+
+-- the line that a server prints of its closed log
+abbrev pub server_line : List Row → List ℕ
+server_line log = printed_line (server_data (length log) (doc log))
+
+-- the output took nothing
+abbrev pub IsUntouched : Port → Type 0
+IsUntouched out = out.after ≡ out.before
+
+-- what a net tells before and after a run: the doors that are left and those that came back, where it tells them, and its count of faults
+pub record NetPort (D : Type 0) : Type 0 where
+  pub doors_before : Option (List D)
+  pub doors_after : Option (List D)
+  pub shut_before : Option (List D)
+  pub shut_after : Option (List D)
+  pub faults_before : ℕ
+  pub faults_after : ℕ
+
+module _ {D : Type 0} where
+  -- the port of what a net told before and after, and of its counts of faults
+  abbrev pub net_port_of : Option (List D) → Option (List D) → Option (List D) → Option (List D) → ℕ → ℕ → NetPort D
+  net_port_of doors doors' shut shut' faults faults' = record { doors_before = doors; doors_after = doors'; shut_before = shut; shut_after = shut'; faults_before = faults; faults_after = faults' }
+
+  -- the net counted a fault, and gave no door
+  abbrev pub GaveNone : NetPort D → Type 0
+  GaveNone net = (net.doors_after ≡ net.doors_before) × (net.shut_after ≡ net.shut_before) × Counted net.faults_before net.faults_after
+
+-- what can be told of doors and of the links that they give
+pub record Telling (L D : Type 0) : Type 0 where
+  pub remaining : L → Option (List ℕ)
+  pub written : L → Option (List ℕ)
+  pub link_faults : L → ℕ
+  pub closed : L → Bool
+  pub links : D → Option (List L)
+  pub retired : D → Option (List L)
+  pub door_faults : D → ℕ
+
+module _ {L D : Type 0} (tells : Telling L D) where
+  -- the net gave a door, which came back as this other one; the net's count of faults rose by that of the door, and by no more
+  pub record IsShut (given shut : D) (net : NetPort D) : Type 0 where
+    pub was_given : net.doors_before ≡ first_of given net.doors_after
+    pub came_back : net.shut_after ≡ and_last net.shut_before shut
+    pub count : AddsCount (tells.door_faults shut) net.faults_before net.faults_after
+
+  -- from one door to the other, a server with this log served each of these links once
+  pub record HasServed (given shut : D) (taken : List L) (log : List Row) : Type 0 where
+    pub legal : IsLegal log
+    pub run : IsRun tells.remaining tells.written tells.link_faults tells.closed taken log (tells.links given) (tells.links shut) (tells.retired given) (tells.retired shut)
+
+  -- a door of the net was served, with no fault of the door, until so many links were taken or none was left; the closed log is this one
+  pub record HasClosed (sessions : Option ℕ) (log : List Row) (net : NetPort D) : Type 0 where
+    pub given : D
+    pub shut : D
+    pub taken : List L
+    pub is_shut : IsShut given shut net
+    pub served : HasServed given shut taken log
+    pub enough : HasEnough sessions (length taken) (tells.links shut)
+    pub calm : tells.door_faults shut ≡ tells.door_faults given
+
+  -- a door of the net was served until it counted a fault
+  pub record HasBroken (net : NetPort D) : Type 0 where
+    pub given : D
+    pub shut : D
+    pub taken : List L
+    pub log : List Row
+    pub is_shut : IsShut given shut net
+    pub served : HasServed given shut taken log
+    pub fault : Counted (tells.door_faults given) (tells.door_faults shut)
+
+  -- a door of the net came back, and no more is said of it
+  abbrev pub HasReturned : NetPort D → Type 0
+  HasReturned net = (given : D) × (shut : D) × IsShut given shut net
+
+  -- The table: what each outcome says of the net and of the output.
+  abbrev pub SaysServed : Option ℕ → Outcome → NetPort D → Port → Type 0
+  SaysServed sessions outcome.Done net out = IsCalm out × (log : List Row) × HasClosed sessions log net × Took out (server_line log)
+  SaysServed sessions outcome.Usage net out = ⊥
+  SaysServed sessions outcome.Memory net out = IsCalm out × HasReturned net × IsUntouched out
+  SaysServed sessions outcome.ReadFault net out = ⊥
+  SaysServed sessions outcome.WriteFault net out = IsFaulted out × (log : List Row) × HasClosed sessions log net × TookPrefix out (server_line log)
+  SaysServed sessions outcome.NetFault net out = IsCalm out × IsUntouched out × Counted net.faults_before net.faults_after × (GaveNone net ⊎ HasBroken net)
+  SaysServed sessions (outcome.BadLine n) net out = ⊥
+  SaysServed sessions outcome.TooMuch net out = ⊥
+
+  -- a run of `serve` that ended with this status
+  pub record Serves (sessions : Option ℕ) (code : ℕ) (net : NetPort D) (out err : Port) : Type 0 where
+    pub outcome : Outcome
+    pub says : SaysServed sessions outcome net out
+    pub code_is : code ≡ code_of outcome
+    pub reported : Reported err (error_line outcome)
+
+-- For private clauses: what printing the line of a closed log at the end says.
+abbrev pub EndsServe : Outcome → List Row → Port → Type 0
+EndsServe outcome.Done log out = IsCalm out × Took out (server_line log)
+EndsServe outcome.Usage log out = ⊥
+EndsServe outcome.Memory log out = IsCalm out × IsUntouched out
+EndsServe outcome.ReadFault log out = ⊥
+EndsServe outcome.WriteFault log out = IsFaulted out × TookPrefix out (server_line log)
+EndsServe outcome.NetFault log out = ⊥
+EndsServe (outcome.BadLine n) log out = ⊥
+EndsServe outcome.TooMuch log out = ⊥
