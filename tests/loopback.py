@@ -243,7 +243,50 @@ def stay_and_back():
     stranger.close()
 
 
-ALONE = [(half_a_line, 2), (no_request, 7), (too_long, 1), (bad_lines, 1), (stay_and_back, 4)]
+def cut_in_a_reply():
+    """A link that goes in the middle of a reply: its performer has left, as the log tells."""
+    up = Link()
+    who = up.ask({"call": "join", "lang": "lines", "name": "cut"})["who"]
+    up.socket.sendall(b"\n" * 2000)
+    up.socket.recv(10)
+    up.close()
+    down = Link()
+    down.send({"call": "down", "from": 0, "who": who})
+    last = None
+    while (entry := down.read()) is not None:
+        last = entry
+    expect((last["deed"], last["who"]), ("leave", who))
+    down.close()
+
+
+def never_reads():
+    """A peer that never reads holds up nobody but itself."""
+    deaf = Link()
+    deaf.send({"call": "join", "lang": "lines", "name": "deaf"})
+    deaf.socket.setblocking(False)
+    sent = 0
+    try:
+        while sent < 1 << 26:
+            sent += deaf.socket.send(b"\n" * 65536)
+    except BlockingIOError:
+        pass
+    other = Link()
+    who = other.ask({"call": "join", "lang": "lines", "name": "other"})["who"]
+    expect(other.ask({"call": "leave"})["who"], who)
+    expect(other.read(), None)
+    other.close()
+    deaf.close()
+
+
+ALONE = [
+    (half_a_line, 2),
+    (no_request, 7),
+    (too_long, 1),
+    (bad_lines, 1),
+    (stay_and_back, 4),
+    (cut_in_a_reply, 2),
+    (never_reads, 2),
+]
 
 
 # ---- Performers.
