@@ -3,9 +3,9 @@
 
     tests/loopback.py [PROGRAM]
 
-PROGRAM is crates/troop/out/troop where it isn't given. One server is started, which ends behind a known number of links; it is the
-only process that is started, and the only one that is ended, by its number, where something went wrong. Each wait has an end. The
-last line says what was seen.
+PROGRAM is crates/troop/out/troop where it isn't given. Two servers are started, one behind the other, each of which ends behind a
+known number of links; they are the only processes that are started, and the only ones that are ended, by their numbers, where
+something went wrong. Each wait has an end. The last line says what was seen.
 """
 import json
 import os
@@ -23,6 +23,7 @@ LIMIT = 1_048_576
 PERFORMERS = 8
 TYPING = 3.0
 PATIENCE = 60.0
+MOST_JOINS = 4_096
 
 
 # ---- Operations: lists of counts kept (> 0), counts deleted (< 0) and texts put in.
@@ -147,6 +148,9 @@ class Link:
     def ask(self, value):
         self.send(value)
         return self.read()
+
+    def join(self):
+        return self.ask({"call": "join", "lang": "lines", "name": "eve"})
 
     def close(self):
         self.socket.close()
@@ -464,21 +468,43 @@ def play(server):
     print(f"loopback: {PERFORMERS} performers, {line['entries']} entries, {len(pairs)} characters, {idle:.2f} s of a processor in 2 idle seconds")
 
 
-def main():
-    program = sys.argv[1] if len(sys.argv) > 1 else PROGRAM
-    if not os.path.exists(program):
-        sys.exit(f"loopback: there is no {program}")
-    Link.port = free_port()
-    links = 1 + sum(count for _, count in ALONE) + 2 * PERFORMERS
+def crowd(server):
+    """A log takes so many joins and no more; the refusal ends its session."""
+    wait_for(server).close()
+    for who in range(1, MOST_JOINS + 1):
+        link = Link()
+        expect(link.join()["who"], who)
+        link.close()
+    link = Link()
+    expect(link.join(), {"joins": MOST_JOINS, "no": "crowded"})
+    expect(link.read(), None)
+    link.close()
+    out, err = server.communicate(timeout=PATIENCE)
+    expect((server.returncode, err), (0, b""))
+    expect(out, b'{"entries":%d,"marks":[],"text":""}\n' % (2 * MOST_JOINS))
+    print(f"loopback: {MOST_JOINS} joins, and one too many")
+
+
+def with_server(program, links, scene):
+    """Plays a scene of so many links against a server of its own."""
+    Link.port, Link.opened = free_port(), 0
     words = [program, "serve", f"127.0.0.1:{Link.port}", f"--sessions={links}"]
     server = subprocess.Popen(words, stdin=subprocess.DEVNULL, stdout=subprocess.PIPE, stderr=subprocess.PIPE)
     try:
-        play(server)
+        scene(server)
         expect(Link.opened, links)
     finally:
         if server.poll() is None:
             server.kill()
             server.wait()
+
+
+def main():
+    program = sys.argv[1] if len(sys.argv) > 1 else PROGRAM
+    if not os.path.exists(program):
+        sys.exit(f"loopback: there is no {program}")
+    with_server(program, 1 + MOST_JOINS + 1, crowd)
+    with_server(program, 1 + sum(count for _, count in ALONE) + 2 * PERFORMERS, play)
 
 
 if __name__ == "__main__":

@@ -1,9 +1,10 @@
 -- Links that are taken from a door, one after the other.
-use Rattle.std.proofs.Common.{◌≡◌, ℕ, ◌+◌, List, [], ◌∷◌, ◌++◌, length, refl, sym, ap, ◌∙◌, arith, length-append, append_assoc, Option, Some, None, option_map}
+use Rattle.std.proofs.Common.{◌≡◌, ℕ, ◌+◌, List, [], ◌∷◌, ◌++◌, length, refl, sym, ap, ◌∙◌, arith, length-append, append_assoc, Option, Some, None, option_map, subst}
+use Rattle.std.specs.Prelude.{◌≤◌, IfSome}
 use Rattle.std.proofs.lemmas.List.{append-nil}
 use Rattle.troop_ports.specs.Doors.{first_of}
 use Rattle.link_queue.specs.Ends.{LinkEndValue, having_moved}
-use Rattle.server_crew.specs.Accepting.{and_more, InTaking}
+use Rattle.server_crew.specs.Accepting.{and_more, IsWithinAsked, InTaking}
 
 and_none : (rest : Option ℕ) → rest ≡ and_more 0 rest
 and_none None = refl
@@ -12,6 +13,14 @@ and_none (Some k) = ap Some (omega arith)
 and_one : (n : ℕ) (rest : Option ℕ) → and_more n (and_more 1 rest) ≡ and_more (n + 1) rest
 and_one n None = refl
 and_one n (Some k) = ap Some (omega arith)
+
+within_more : (count : ℕ) (rest : Option ℕ) → IsWithinAsked (and_more count rest) count
+within_more count None = tt
+within_more count (Some more) = omega arith
+
+-- where so many were taken and some may be still asked for, no more were taken than were asked for
+pub within_asked : (sessions rest : Option ℕ) (count : ℕ) → sessions ≡ and_more count rest → IsWithinAsked sessions count
+within_asked sessions rest count left = subst (λ asked. IsWithinAsked asked count) (sym left) (within_more count rest)
 
 module _ {L : Type 0} where
   in_front_none : (told : Option (List L)) → told ≡ option_map (λ others. [] ++ others) told

@@ -2,7 +2,7 @@
 ghost use Rattle.std.specs.Prelude.{◌≡◌, List, length, Ok, Err, IfOk, IfErr};
 ghost use Rattle.troop_entry.specs.declared.row.Row.{Row};
 ghost use Rattle.log_model.specs.Legal.{IsLegal};
-ghost use Rattle.server_crew.specs.Accepting.{HasEnough};
+ghost use Rattle.server_crew.specs.Accepting.{HasEnough, IsWithinAsked};
 ghost use Rattle.server_crew.specs.Crews.{IsRun, CountsServe, KeepsPlaces};
 
 use crate::ServeError;
@@ -36,7 +36,7 @@ where
     D::L: Drop + Send,
     ensures legal { IfOk result IsLegal }
     ensures served { IfOk result (λ desk. (taken : List D.L) × IsRun D.L.Source.remaining D.L.Sink.taken D.L.Source.faults D.L.Source.closed taken desk (D.links door.old) (D.links door.new) (D.retired door.old) (D.retired door.new) × HasEnough sessions (length taken) (D.links door.new)) }
-    ensures fault { result ≡ Err ServeError.DoorFault → (taken : List D.L) × (log : List Row) × IsLegal log × IsRun D.L.Source.remaining D.L.Sink.taken D.L.Source.faults D.L.Source.closed taken log (D.links door.old) (D.links door.new) (D.retired door.old) (D.retired door.new) }
+    ensures fault { result ≡ Err ServeError.DoorFault → (taken : List D.L) × (log : List Row) × IsLegal log × IsRun D.L.Source.remaining D.L.Sink.taken D.L.Source.faults D.L.Source.closed taken log (D.links door.old) (D.links door.new) (D.retired door.old) (D.retired door.new) × IsWithinAsked sessions (length taken) }
     ensures cause { CountsServe result (D.faults door.old) (D.faults door.new) }
     ensures places { KeepsPlaces result (D.places door.old) (D.places door.new) }
 {

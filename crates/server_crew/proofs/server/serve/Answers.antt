@@ -43,6 +43,7 @@ returns-then-failed-clause-fault g c = λ _.
       c.close_down-closed.result.desk,
       c.close_down-closed.ensures.legal,
       run_from g.D.L.Source.remaining g.D.L.Sink.taken g.D.L.Source.faults g.D.L.Source.closed taking.links c.run-failed.new.end.put c.close_down-closed.result.desk _ _ _ _ _ _ (c.close_down-closed.ensures.run c.if-closed.false) put taking.moved.from c.close_down-closed.ensures.links c.run-failed.ensures.retired,
+      taking.within,
     )
 
 pub returns-clause-served : goal.returns-clause-served
