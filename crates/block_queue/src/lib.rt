@@ -7,6 +7,7 @@
 mod item;
 mod queue;
 mod rule;
+mod traffic;
 
 pub use item::Item;
 pub use queue::{Feeder, Queue, Taker};

@@ -5,6 +5,7 @@ ghost use Rattle.block_queue.specs.Values.{IsEndOf, WasFull};
 
 use crate::Item;
 use crate::rule::{EndView, Ends, Popped, Pushed, Ring, Whole};
+use crate::traffic::Traffic;
 use crossbeam_queue::Pass;
 use std::alloc::{AllocError, Global};
 use std::marker::Model;
@@ -13,7 +14,12 @@ use std::sync::Wait;
 /// A queue of items, which its two ends share.
 #[derive(Drop)]
 pub struct Queue {
+    // What is in it.
     ring: Ring,
+    // How many places it has.
+    room: u64,
+    // What went in and out, for whoever waits.
+    traffic: Traffic,
 }
 
 impl Model for Queue {
@@ -66,7 +72,12 @@ impl Queue {
     {
         let (ring, mut pass) = Ring::ruled(alloc, room as usize)?;
         let taker = ring.another::<Ends>(&mut pass);
-        Ok((Queue { ring }, Feeder { pass }, Taker { pass: taker }))
+        let queue = Queue {
+            ring,
+            room,
+            traffic: Traffic::new(),
+        };
+        Ok((queue, Feeder { pass }, Taker { pass: taker }))
     }
 }
 
@@ -79,7 +90,16 @@ impl Feeder {
         ensures err { IfErr result (λ back. (back ≡ item) × (self.new.items ≡ self.old.items)) }
         ensures full { IfErr result (λ back. WasFull queue.now.room self.old.items) }
     {
-        queue.ring.push_as::<Pushed, R>(rt, &mut self.pass, item)
+        queue.ring.push_as::<Pushed, R>(rt, &mut self.pass, item)?;
+        queue.traffic.count_pushed(rt);
+        Ok(())
+    }
+
+    /// Sleeps until the queue seems to have room. A `push` behind it may still find none.
+    pub fn wait_for_room<R: Wait>(&self, rt: &R, queue: &Queue)
+        requires { IsEndOf queue.now self.now }
+    {
+        queue.traffic.wait_for_room(rt, queue.room);
     }
 }
 
@@ -90,7 +110,18 @@ impl Taker {
         ensures queue { IsEndOf queue.now self.new }
         ensures popped { MatchOption result (self.new.items ≡ self.old.items) (λ item. self.new.items ≡ self.old.items ++ item ∷ []) }
     {
-        queue.ring.pop_as::<Popped, R>(rt, &mut self.pass)
+        let item = queue.ring.pop_as::<Popped, R>(rt, &mut self.pass);
+        if item.is_some() {
+            queue.traffic.count_popped(rt);
+        }
+        item
+    }
+
+    /// Sleeps until the queue seems to hold an item. A `pop` behind it may still find none.
+    pub fn wait_for_item<R: Wait>(&self, rt: &R, queue: &Queue)
+        requires { IsEndOf queue.now self.now }
+    {
+        queue.traffic.wait_for_item(rt);
     }
 
     /// Takes the other end in, which has ended. What was popped is then known to be what that end pushed first, in order. It takes

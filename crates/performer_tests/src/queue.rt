@@ -27,7 +27,9 @@ fn a_queue_with_room_for_one_hands_the_second_back(rt: HostRuntime) -> Result<()
     assert!(rt; feeder.push(&rt, &queue, block(alloc, 1)?).is_ok());
     let back = feeder.push(&rt, &queue, block(alloc, 2)?).err();
     assert_eq!(rt; place(&back), Some(2));
+    taker.wait_for_item(&rt, &queue);
     assert_eq!(rt; place(&taker.pop(&rt, &queue)), Some(1));
+    feeder.wait_for_room(&rt, &queue);
     assert!(rt; taker.pop(&rt, &queue).is_none());
     assert!(rt; feeder.push(&rt, &queue, Item::End).is_ok());
     assert!(rt; matches!(taker.pop(&rt, &queue), Some(Item::End)));
