@@ -1,11 +1,13 @@
 //! Case files.
 
 use crate::sign::{Part, Sign, read_sign};
+use case_files::{Sheet, read_sheet};
 use std::alloc::{AllocError, Global};
 
 /// A script, and what each of its runs prints.
 #[derive(Debug, Drop)]
 pub struct Case {
+    alloc: Global,
     /// The script's lines in front of those that take turns.
     pub front: Vec<u8>,
     /// Lines of which each run has one. With none there is one run.
@@ -18,57 +20,48 @@ pub struct Case {
     pub err: Vec<u8>,
     /// A run's status.
     pub status: u8,
+    // What the next line is.
+    part: Part,
 }
 
 impl Case {
     /// The case of a file, if each of its signs can be read.
     pub fn read(alloc: Global, file: &[u8]) -> Result<Option<Case>, AllocError> {
         let mut case = Case {
+            alloc,
             front: Vec::new(alloc),
             turns: Vec::new(alloc),
             back: Vec::new(alloc),
             out: Vec::new(alloc),
             err: Vec::new(alloc),
             status: 0,
+            part: Part::Front,
         };
-        let mut part = Part::Front;
-        let mut times = 1;
-        let mut bare = false;
-        for line in file.split_inclusive(|b| *b == b'\n') {
-            let Some(text) = line.strip_prefix(b"-- ") else {
-                let put = if bare { without_feed(line) } else { line };
-                for _ in 0..times {
-                    case.put(alloc, part, put)?;
-                }
-                times = 1;
-                bare = false;
-                continue;
-            };
-            match read_sign(text) {
-                Some(Sign::Note) => {}
-                Some(Sign::Part(named)) => part = named,
-                Some(Sign::Repeat(count)) => times = count,
-                Some(Sign::Bare) => bare = true,
-                Some(Sign::Status(code)) => case.status = code,
-                None => return Ok(None),
-            }
+        if read_sheet(file, &mut case)? {
+            Ok(Some(case))
+        } else {
+            Ok(None)
         }
-        Ok(Some(case))
     }
+}
 
-    // Puts a line behind the others of its part.
-    fn put(&mut self, alloc: Global, part: Part, line: &[u8]) -> Result<(), AllocError> {
-        match part {
+impl Sheet for Case {
+    fn put(&mut self, line: &[u8]) -> Result<(), AllocError> {
+        match self.part {
             Part::Front => self.front.extend_from_slice(line),
-            Part::Each => Ok(self.turns.push(Vec::from_slice(alloc, line)?)?),
+            Part::Each => Ok(self.turns.push(Vec::from_slice(self.alloc, line)?)?),
             Part::Back => self.back.extend_from_slice(line),
             Part::Out => self.out.extend_from_slice(line),
             Part::Err => self.err.extend_from_slice(line),
         }
     }
-}
 
-// The line without the line feed at its end.
-fn without_feed(line: &[u8]) -> &[u8] {
-    line.strip_suffix(b"\n").unwrap_or(line)
+    fn turn(&mut self, sign: &str) -> Result<bool, AllocError> {
+        match read_sign(sign) {
+            Some(Sign::Part(part)) => self.part = part,
+            Some(Sign::Status(code)) => self.status = code,
+            None => return Ok(false),
+        }
+        Ok(true)
+    }
 }

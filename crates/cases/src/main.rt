@@ -9,6 +9,7 @@ mod verdict;
 
 use anyhow::{Context, Result, bail};
 use case::Case;
+use case_files::case_names;
 use std::fs;
 use verdict::judge;
 
@@ -30,17 +31,4 @@ fn main(rt: HostRuntime) -> Result<()> {
         bail!("{failed} cases failed");
     }
     Ok(())
-}
-
-// The names of the case files, in order.
-fn case_names(rt: &HostRuntime) -> Result<Vec<String>> {
-    let mut names = Vec::new(rt.alloc());
-    for entry in fs::read_dir(rt, ".")? {
-        let entry = entry?;
-        if entry.file_name().ends_with(".case") {
-            names.push(String::from_str(rt.alloc(), entry.file_name())?)?;
-        }
-    }
-    names.sort()?;
-    Ok(names)
 }

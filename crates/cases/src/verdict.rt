@@ -1,21 +1,13 @@
 //! What came of a case.
 
 use crate::case::Case;
+use case_files::Verdict;
 use replay_run::replay;
 use std::alloc::{AllocError, Global};
 use troop_ports::{BytesSink, BytesSource};
 
 /// How many bytes a run may print on each of its streams.
 const ROOM: u64 = 2_000_000;
-
-/// Whether a case holds, and what is told of it.
-#[derive(Debug, Drop)]
-pub struct Verdict {
-    /// Whether every run printed what the case says.
-    pub holds: bool,
-    /// What is printed of it.
-    pub told: String,
-}
 
 /// The verdict on a file that has no case.
 pub fn unreadable(alloc: Global) -> Result<Verdict, AllocError> {

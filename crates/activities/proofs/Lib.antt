@@ -1,0 +1,9 @@
+pub mod IfOk
+pub mod GaveLines
+pub mod TellsLine
+pub mod Remembers
+pub mod MachineAt
+pub mod FedSome
+pub mod TookDown
+pub mod SentUp
+pub mod RanCommands

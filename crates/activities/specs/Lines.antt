@@ -1,0 +1,49 @@
+-- Lines that were read one after the other, and what they mean.
+use Rattle.std.specs.Prelude.{◌≡◌, ◌⊎◌, ℕ, ◌+◌, ◌-◌, ◌^◌, min, List, [], ◌∷◌, ◌++◌, length, map, Option, None, Some, IfSome, option_map}
+use Rattle.troop_ports.specs.Bytes.{in_front}
+use Rattle.troop_ports.specs.Faults.{Counted}
+use Rattle.wire_lines.specs.Lines.{lines}
+use Rattle.wire_lines.specs.Reader.{Reader, held_bytes, IsLong}
+use Rattle.wire_lines.specs.declared.reader.Line.{Line}
+use Rattle.wire_lines.specs.declared.reader.Line.TheVariants as line
+use Rattle.wire_lines.specs.declared.reader.State.TheVariants as state
+
+-- what a reader holds, and then what remains of its source, where that is told
+abbrev pub coming : Reader → Option (List ℕ) → Option (List ℕ)
+coming reader remaining = in_front (held_bytes reader) remaining
+
+-- the reader goes on, or its source has ended and nothing remains
+abbrev pub MayRead : Reader → Option (List ℕ) → Type 0
+MayRead reader remaining = (reader.state ≡ state.Going) ⊎ ((reader.state ≡ state.Ended) × (held_bytes reader ≡ []) × IfSome remaining (λ rest. rest ≡ []))
+
+-- the lines of the bytes that were to come are these, and then those of the bytes that are to come now
+abbrev pub GaveLines : Option (List ℕ) → List (List ℕ) → Option (List ℕ) → Type 0
+GaveLines before given after = option_map lines before ≡ option_map (λ rest. given ++ lines rest) after
+
+-- the bytes to come are some that the reader holds, and then those that remain of its source
+abbrev pub IsHeldBack : Option (List ℕ) → Option (List ℕ) → Type 0
+IsHeldBack rest remaining = (held : List ℕ) × (rest ≡ in_front held remaining)
+
+-- what an answer of a reader with this limit says: of the bytes that were to come, of the reader then, and of what remains then
+abbrev pub TellsLine : Line → ℕ → Option (List ℕ) → Reader → Option (List ℕ) → Type 0
+TellsLine (line.Text text) limit before new remaining = GaveLines before (text.items ∷ []) (coming new remaining) × MayRead new remaining
+TellsLine line.End limit before new remaining = IsHeldBack before remaining × IfSome before (λ rest. rest ≡ [])
+TellsLine line.Long limit before new remaining = IsHeldBack before remaining × IfSome before (IsLong limit)
+TellsLine line.Fault limit before new remaining = IsHeldBack before remaining
+TellsLine line.Memory limit before new remaining = IsHeldBack before remaining
+
+-- a fault was counted exactly where it is answered
+abbrev pub CountsAnswer : Line → ℕ → ℕ → Type 0
+CountsAnswer (line.Text text) before now = now ≡ before
+CountsAnswer line.End before now = now ≡ before
+CountsAnswer line.Long before now = now ≡ before
+CountsAnswer line.Fault before now = Counted before now
+CountsAnswer line.Memory before now = now ≡ before
+
+-- each line was read as the value at its place
+abbrev pub AreReadAs : {T : Type 0} → (List ℕ → Option T) → List (List ℕ) → List T → Type 0
+AreReadAs read given values = map read given ≡ map Some values
+
+-- the number of the line behind these, where lines are counted from a number on
+abbrev pub number_behind : ℕ → List (List ℕ) → ℕ
+number_behind first given = min (length given + first) (2 ^ 64 - 1)

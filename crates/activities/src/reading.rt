@@ -1,0 +1,19 @@
+//! Lines of a source, one after the other.
+ghost use Rattle.std.specs.Prelude.{◌≡◌, false};
+ghost use Rattle.activities.specs.Lines.{coming, MayRead, TellsLine, CountsAnswer};
+
+use troop_ports::Source;
+use wire_lines::{Line, LineReader};
+
+// The next line, of a reader that gave lines alone so far.
+pub(crate) fn next_line<S: Source>(reader: &mut LineReader, source: &mut S) -> Line
+    requires is_open { S.closed source.old ≡ false }
+    requires may { MayRead reader.old (S.remaining source.old) }
+    ensures line { TellsLine result reader.old.limit (coming reader.old (S.remaining source.old)) reader.new (S.remaining source.new) }
+    ensures cause { CountsAnswer result (S.faults source.old) (S.faults source.new) }
+    ensures beside { S.taken_beside source.new ≡ S.taken_beside source.old }
+    ensures still_open { S.closed source.new ≡ false }
+    ensures limit { reader.new.limit ≡ reader.old.limit }
+{
+    reader.next(source)
+}

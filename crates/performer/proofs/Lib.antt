@@ -1,0 +1,4 @@
+pub mod IsRising
+pub mod OpeningFails
+pub mod Picked
+pub mod TookAll
