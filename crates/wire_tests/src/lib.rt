@@ -14,6 +14,8 @@ mod ports;
 #[cfg(test)]
 mod printers;
 #[cfg(test)]
+mod programs;
+#[cfg(test)]
 mod readers;
 #[cfg(test)]
 mod wraps;
