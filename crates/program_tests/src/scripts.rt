@@ -1,9 +1,13 @@
 //! What no file shows: the words, the limit of the input, and streams that come in pieces, fail or have no room.
-use replay_run::{Outcome, faults_exactly, first_stop_law, replay_upto, replays_exactly};
+use pipe_ports::ScriptHatch;
+use replay_run::{
+    Outcome, faults_exactly, first_stop_law, replay_upto, replays_exactly, report_number,
+    report_parts,
+};
 use std::alloc::Global;
 use std::test::Fail;
 use troop_main::troop;
-use troop_ports::{BytesLink, BytesSink, BytesSource, ListDoor, ListNet};
+use troop_ports::{BytesLink, BytesSink, BytesSource, ListDoor, ListNet, ListShelf};
 
 /// A run's limit and how its streams behave, and then what it comes to.
 #[derive(Clone, Copy)]
@@ -153,7 +157,8 @@ fn words_choose_the_command(rt: HostRuntime) -> Result<(), Fail> {
         let mut err = BytesSink::new(rt.alloc(), 100, &[])?;
         let doors = Vec::<ListDoor<BytesLink>>::new(rt.alloc());
         let mut net = ListNet::new(rt.alloc(), doors, Vec::<BytesLink>::new(rt.alloc()), &[])?;
-        let status = troop(
+        let mut shelf = ListShelf::new(rt.alloc(), Vec::new(rt.alloc()), &[])?;
+        let (status, _hatch) = troop(
             &rt,
             rt.alloc(),
             &words,
@@ -161,11 +166,25 @@ fn words_choose_the_command(rt: HostRuntime) -> Result<(), Fail> {
             &mut out,
             &mut err,
             &mut net,
+            ScriptHatch::new(rt.alloc())?,
+            &mut shelf,
         );
         assert_eq!(rt; status.code, *code);
         let line = if *code == 0 { "" } else { "troop: usage\n" };
         assert_eq!(rt; err.bytes(), line.as_bytes());
     }
+    Ok(())
+}
+
+#[test]
+fn lines_with_numbers_are_reported(rt: HostRuntime) -> Result<(), Fail> {
+    let mut err = BytesSink::new(rt.alloc(), 100, &[])?;
+    report_number(b"line ", 18_446_744_073_709_551_615, b"\n", &mut err);
+    report_parts(b"a ", b"part\n", &mut err);
+    assert_eq!(rt;
+        err.bytes(),
+        b"line 18446744073709551615\na part\n".as_slice()
+    );
     Ok(())
 }
 

@@ -2,10 +2,11 @@
 ghost use Rattle.std.specs.Prelude.{◌≡◌, false, IfOk};
 
 use crate::scripts::words_of;
+use pipe_ports::ScriptHatch;
 use std::alloc::Global;
 use std::test::Fail;
 use troop_main::troop;
-use troop_ports::{BytesLink, BytesSink, BytesSource, ListDoor, ListNet};
+use troop_ports::{BytesLink, BytesSink, BytesSource, ListDoor, ListNet, ListShelf};
 
 /// A join, and an edit that changes nothing.
 const LINES: &[u8] =
@@ -193,7 +194,8 @@ fn words_and_faults_decide_how_a_server_ends(rt: HostRuntime) -> Result<(), Fail
         let mut input = BytesSource::new(rt.alloc(), b"[]\n", &[], &[])?;
         let mut out = BytesSink::new(rt.alloc(), evening.room, evening.writes)?;
         let mut err = BytesSink::new(rt.alloc(), 100, &[])?;
-        let status = troop(
+        let mut shelf = ListShelf::new(rt.alloc(), Vec::new(rt.alloc()), &[])?;
+        let (status, _hatch) = troop(
             &rt,
             rt.alloc(),
             &words,
@@ -201,6 +203,8 @@ fn words_and_faults_decide_how_a_server_ends(rt: HostRuntime) -> Result<(), Fail
             &mut out,
             &mut err,
             &mut net,
+            ScriptHatch::new(rt.alloc())?,
+            &mut shelf,
         );
         assert_eq!(rt; status.code, evening.code);
         assert_eq!(rt; out.bytes(), evening.out.as_bytes());

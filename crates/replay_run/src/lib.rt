@@ -15,4 +15,5 @@ mod steps;
 
 pub use laws::{faults_exactly, first_stop_law, replays_exactly};
 pub use outcome::Outcome;
+pub use report::{report_number, report_parts};
 pub use runs::{replay, replay_upto};

@@ -46,8 +46,10 @@ fn write_line<E: Sink>(err: &mut E, line: &[u8])
     let _ = write_all(err, line);
 }
 
-// Writes a line with a number in it.
-fn report_number<E: Sink>(before: &[u8], number: u64, behind: &[u8], err: &mut E)
+/// Writes a line on an error stream: these bytes, a number, and then these, or as much of it as is taken before a fault.
+///
+/// It takes no memory.
+pub fn report_number<E: Sink>(before: &[u8], number: u64, behind: &[u8], err: &mut E)
     requires { E.closed err.old ≡ false }
     ensures { Reported (port_of (E.taken err.old) (E.taken err.new) (E.faults err.old) (E.faults err.new))
         (before.now ++ (decimal number ++ behind.now)) }
@@ -66,16 +68,18 @@ fn report_from_number<E: Sink>(number: u64, behind: &[u8], err: &mut E)
 {
     let mut buffer = Buffer::new();
     let digits = buffer.format(number);
-    report_digits(digits.as_bytes(), behind, err);
+    report_parts(digits.as_bytes(), behind, err);
 }
 
-// Writes these digits, and what stands behind them.
-fn report_digits<E: Sink>(digits: &[u8], behind: &[u8], err: &mut E)
+/// Writes a line on an error stream that is given in two parts, or as much of it as is taken before a fault.
+///
+/// It takes no memory.
+pub fn report_parts<E: Sink>(first: &[u8], behind: &[u8], err: &mut E)
     requires { E.closed err.old ≡ false }
     ensures { Reported (port_of (E.taken err.old) (E.taken err.new) (E.faults err.old) (E.faults err.new))
-        (digits.now ++ behind.now) }
+        (first.now ++ behind.now) }
 {
-    match write_all(err, digits) {
+    match write_all(err, first) {
         Written::All => write_line(err, behind),
         Written::Part(_) => {}
     }

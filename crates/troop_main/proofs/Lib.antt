@@ -1,2 +1,9 @@
-pub mod SessionsOf
+pub mod NumberUpto
+pub mod ProgramOf
+pub mod PerformFront
 pub mod SaysServed
+pub mod CountsLinks
+pub mod HasPlayedOut
+pub mod ReportsEnd
+pub mod SaysPerformed
+pub mod LargeWork

@@ -6,7 +6,7 @@ use Rattle.log_model.specs.Legal.{IsLegal}
 use Rattle.troop_ports.specs.Faults.{Counted, AddsCount}
 use Rattle.troop_ports.specs.Bytes.{at_end}
 use Rattle.troop_ports.specs.Doors.{first_of, and_last}
-use Rattle.server_crew.specs.Accepting.{HasEnough}
+use Rattle.server_crew.specs.Accepting.{HasEnough, IsWithinAsked}
 use Rattle.server_crew.specs.Crews.{IsRun}
 use Rattle.replay_run.specs.declared.outcome.Outcome.{Outcome}
 use Rattle.replay_run.specs.declared.outcome.Outcome.TheVariants as outcome
@@ -61,13 +61,13 @@ shut_by tells given shut doors0 doors1 doors2 shut0 shut1 shut2 f0 f1 f2 gave sa
 
 -- a server that ended with its door's fault
 pub broken : {L D : Type 0} (tells : Telling L D) (sessions : Option ℕ) (given shut : D) (net : NetPort D) (out : Port) → IsShut tells given shut net → IsCalm out → IsUntouched out → Counted (tells.door_faults given) (tells.door_faults shut)
-    → (taken : List L) × (log : List Row) × IsLegal log × IsRun tells.remaining tells.written tells.link_faults tells.closed taken log (tells.links given) (tells.links shut) (tells.retired given) (tells.retired shut)
+    → (taken : List L) × (log : List Row) × IsLegal log × IsRun tells.remaining tells.written tells.link_faults tells.closed taken log (tells.links given) (tells.links shut) (tells.retired given) (tells.retired shut) × IsWithinAsked sessions (length taken)
     → SaysServed tells sessions outcome.NetFault net out
-broken tells sessions given shut net out back calm idle fault (taken, log, legal, run) = (
+broken tells sessions given shut net out back calm idle fault (taken, log, legal, run, within) = (
   calm,
   idle,
   counted_of_door (tells.door_faults given) (tells.door_faults shut) net.faults_before net.faults_after fault back.count,
-  inr (record { given = given; shut = shut; taken = taken; log = log; is_shut = back; served = record { legal = legal; run = run }; fault = fault }),
+  inr (record { given = given; shut = shut; taken = taken; log = log; is_shut = back; served = record { legal = legal; run = run }; within = within; fault = fault }),
 )
 
 -- a server that ended as it was asked to

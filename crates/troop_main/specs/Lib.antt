@@ -1,2 +1,4 @@
 pub mod Words
 pub mod Serving
+pub mod Performing
+pub mod Reports

@@ -6,7 +6,7 @@ use Rattle.log_model.specs.Legal.{IsLegal}
 use Rattle.wire_print.specs.Printed.{printed_line, server_data}
 use Rattle.troop_ports.specs.Faults.{Counted, AddsCount}
 use Rattle.troop_ports.specs.Doors.{first_of, and_last}
-use Rattle.server_crew.specs.Accepting.{HasEnough}
+use Rattle.server_crew.specs.Accepting.{HasEnough, IsWithinAsked}
 use Rattle.server_crew.specs.Crews.{IsRun}
 use Rattle.replay_run.specs.declared.outcome.Outcome.{Outcome}
 use Rattle.replay_run.specs.declared.outcome.Outcome.TheVariants as outcome
@@ -17,27 +17,27 @@ use Rattle.replay_run.specs.Ports.{Port, IsCalm, IsFaulted, Took, TookPrefix, Re
 abbrev pub server_line : List Row → List ℕ
 server_line log = printed_line (server_data (length log) (doc log))
 
--- the output took nothing
+-- the input gave nothing, or the output took nothing
 abbrev pub IsUntouched : Port → Type 0
-IsUntouched out = out.after ≡ out.before
+IsUntouched port = port.after ≡ port.before
 
--- what a net tells before and after a run: the doors that are left and those that came back, where it tells them, and its count of faults
-pub record NetPort (D : Type 0) : Type 0 where
-  pub doors_before : Option (List D)
-  pub doors_after : Option (List D)
-  pub shut_before : Option (List D)
-  pub shut_after : Option (List D)
+-- what a net tells of its doors, or of its links, before and after a run: those that are left and those that came back, where it tells them; and its count of faults
+pub record NetPort (X : Type 0) : Type 0 where
+  pub left_before : Option (List X)
+  pub left_after : Option (List X)
+  pub back_before : Option (List X)
+  pub back_after : Option (List X)
   pub faults_before : ℕ
   pub faults_after : ℕ
 
-module _ {D : Type 0} where
+module _ {X : Type 0} where
   -- the port of what a net told before and after, and of its counts of faults
-  abbrev pub net_port_of : Option (List D) → Option (List D) → Option (List D) → Option (List D) → ℕ → ℕ → NetPort D
-  net_port_of doors doors' shut shut' faults faults' = record { doors_before = doors; doors_after = doors'; shut_before = shut; shut_after = shut'; faults_before = faults; faults_after = faults' }
+  abbrev pub net_port_of : Option (List X) → Option (List X) → Option (List X) → Option (List X) → ℕ → ℕ → NetPort X
+  net_port_of left left' back back' faults faults' = record { left_before = left; left_after = left'; back_before = back; back_after = back'; faults_before = faults; faults_after = faults' }
 
-  -- the net counted a fault, and gave no door
-  abbrev pub GaveNone : NetPort D → Type 0
-  GaveNone net = (net.doors_after ≡ net.doors_before) × (net.shut_after ≡ net.shut_before) × Counted net.faults_before net.faults_after
+  -- the net counted a fault, and gave none
+  abbrev pub GaveNone : NetPort X → Type 0
+  GaveNone net = (net.left_after ≡ net.left_before) × (net.back_after ≡ net.back_before) × Counted net.faults_before net.faults_after
 
 -- what can be told of doors and of the links that they give
 pub record Telling (L D : Type 0) : Type 0 where
@@ -52,8 +52,8 @@ pub record Telling (L D : Type 0) : Type 0 where
 module _ {L D : Type 0} (tells : Telling L D) where
   -- the net gave a door, which came back as this other one; the net's count of faults rose by that of the door, and by no more
   pub record IsShut (given shut : D) (net : NetPort D) : Type 0 where
-    pub was_given : net.doors_before ≡ first_of given net.doors_after
-    pub came_back : net.shut_after ≡ and_last net.shut_before shut
+    pub was_given : net.left_before ≡ first_of given net.left_after
+    pub came_back : net.back_after ≡ and_last net.back_before shut
     pub count : AddsCount (tells.door_faults shut) net.faults_before net.faults_after
 
   -- from one door to the other, a server with this log served each of these links once
@@ -71,14 +71,15 @@ module _ {L D : Type 0} (tells : Telling L D) where
     pub enough : HasEnough sessions (length taken) (tells.links shut)
     pub calm : tells.door_faults shut ≡ tells.door_faults given
 
-  -- a door of the net was served until it counted a fault
-  pub record HasBroken (net : NetPort D) : Type 0 where
+  -- a door of the net was served until it counted a fault, and no more links were taken than were asked for
+  pub record HasBroken (sessions : Option ℕ) (net : NetPort D) : Type 0 where
     pub given : D
     pub shut : D
     pub taken : List L
     pub log : List Row
     pub is_shut : IsShut given shut net
     pub served : HasServed given shut taken log
+    pub within : IsWithinAsked sessions (length taken)
     pub fault : Counted (tells.door_faults given) (tells.door_faults shut)
 
   -- a door of the net came back, and no more is said of it
@@ -92,7 +93,7 @@ module _ {L D : Type 0} (tells : Telling L D) where
   SaysServed sessions outcome.Memory net out = IsCalm out × HasReturned net × IsUntouched out
   SaysServed sessions outcome.ReadFault net out = ⊥
   SaysServed sessions outcome.WriteFault net out = IsFaulted out × (log : List Row) × HasClosed sessions log net × TookPrefix out (server_line log)
-  SaysServed sessions outcome.NetFault net out = IsCalm out × IsUntouched out × Counted net.faults_before net.faults_after × (GaveNone net ⊎ HasBroken net)
+  SaysServed sessions outcome.NetFault net out = IsCalm out × IsUntouched out × Counted net.faults_before net.faults_after × (GaveNone net ⊎ HasBroken sessions net)
   SaysServed sessions (outcome.BadLine n) net out = ⊥
   SaysServed sessions outcome.TooMuch net out = ⊥
 

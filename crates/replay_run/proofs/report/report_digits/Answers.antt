@@ -1,8 +1,0 @@
-use Rattle.replay_run.proofs.Reports.{reported_behind, reported_short}
-use Rattle.replay_run.proofs.report.report_digits.Goals as goal
-
-pub returns-in-All : goal.returns-in-All
-returns-in-All g c = reported_behind c.args.digits.now c.args.behind.now _ _ _ _ _ _ c.in-All.ensures.bytes c.in-All.ensures.cause c.write_line.ensures
-
-pub returns-in-Part : goal.returns-in-Part
-returns-in-Part g c = reported_short c.args.digits.now c.args.behind.now c.in-Part.field-0 _ _ _ _ c.in-Part.ensures.bytes.1 c.in-Part.ensures.cause
