@@ -1,0 +1,2 @@
+mod ThreeParts
+mod DrawnEdit

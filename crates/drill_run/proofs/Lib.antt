@@ -1,0 +1,11 @@
+mod Performers
+mod IsOpen
+mod OpenWorld
+mod TurnsLeft
+mod UntilUnfit
+mod IsDrained
+mod AfterRound
+mod AfterLines
+mod DrawnLine
+mod Counts
+mod Ends

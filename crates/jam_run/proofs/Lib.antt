@@ -1,0 +1,13 @@
+pub mod OnOk
+pub mod IsLater
+pub mod AreDrawn
+pub mod Owed
+pub mod IsPlaying
+pub mod TakesAll
+pub mod AreNumbered
+pub mod RowsOf
+pub mod PairsBy
+pub mod JoinRows
+pub mod Joined
+pub mod AreJamRows
+pub mod IsJam

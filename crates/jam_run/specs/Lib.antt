@@ -1,0 +1,5 @@
+pub mod Drawing
+pub mod Taking
+pub mod Playing
+pub mod Joins
+pub mod Jams
