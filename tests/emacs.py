@@ -17,16 +17,15 @@ import random
 import re
 import select
 import shutil
-import socket
 import subprocess
 import sys
 import tempfile
 import termios
-import threading
 import time
 
 import loopback
 from loopback import PATIENCE, PROGRAM, TOP, Link, expect
+from relay import Relay
 
 CLIENT = os.path.join(TOP, "clients", "emacs", "troop.el")
 TESTS = os.path.join(TOP, "tests", "emacs")
@@ -87,62 +86,6 @@ def compiled(folder):
     if done.returncode != 0:
         sys.exit(f"emacs: the client doesn't compile\n{done.stderr}")
     return copy
-
-
-# ---- A relay in front of the server, which can cut links.
-
-class Relay:
-    """Hands on what comes, in pieces and with pauses, and cuts all its links when it is told to."""
-
-    def __init__(self, port, pause):
-        self.port, self.pause = port, pause
-        self.draws, self.dialled, self.links = random.Random(SEED), 0, []
-        self.lock = threading.Lock()
-        self.door = socket.create_server(("127.0.0.1", 0))
-        threading.Thread(target=self.accept, daemon=True).start()
-
-    def address(self):
-        return self.door.getsockname()[1]
-
-    def accept(self):
-        while True:
-            try:
-                near, _ = self.door.accept()
-                far = socket.create_connection(("127.0.0.1", self.port), timeout=PATIENCE)
-            except OSError:
-                return
-            with self.lock:
-                self.dialled += 1
-                self.links.append((near, far))
-            for source, sink in [(near, far), (far, near)]:
-                source.settimeout(None)
-                source.setsockopt(socket.IPPROTO_TCP, socket.TCP_NODELAY, 1)
-                threading.Thread(target=self.hand_on, args=(source, sink), daemon=True).start()
-
-    def hand_on(self, source, sink):
-        try:
-            while piece := source.recv(65536):
-                half = self.draws.randrange(len(piece) + 1)
-                sink.sendall(piece[:half])
-                time.sleep(self.draws.random() * self.pause)
-                sink.sendall(piece[half:])
-            sink.shutdown(socket.SHUT_WR)
-        except OSError:
-            pass
-
-    def cut(self):
-        with self.lock:
-            links, self.links = self.links, []
-        for link in links:
-            for end in link:
-                try:
-                    end.shutdown(socket.SHUT_RDWR)
-                except OSError:
-                    pass
-
-    def close(self):
-        self.door.close()
-        self.cut()
 
 
 # ---- A server, and a performer in Python.
@@ -261,7 +204,7 @@ def two_seats(client, program, folder):
     with serve(program) as server:
         loopback.wait_for(server).close()
         listener = Listener(7)
-        relays = [Relay(Link.port, 0.01), Relay(Link.port, 0.02)]
+        relays = [Relay(Link.port, 0.01, SEED), Relay(Link.port, 0.02, SEED)]
         with seat(client, relays[0], "ann", folder, 0, program if performs else "") as ann, \
                 seat(client, relays[1], "bo", folder, PASTE, "") as bo:
             listener.wait_until(lambda: all(name in read(folder, "bo.said") + read(folder, "ann.said")
@@ -289,17 +232,19 @@ def two_seats(client, program, folder):
 
 PREVIOUS_LINE, EVALUATE, UNDO, END = "\x10", "\x03\x03", "\x1f", "\x18\x03"
 FIRST_PLACE, LAST_PLACE, REPLACE = "\x1b<", "\x1b>", "\x1b%"
+SET_MARK, NEXT_WORD, RECTANGLE = "\x00", "\x1bf", "\x18rt"
 
 
 class Terminal:
-    """An Emacs on a terminal of its own."""
+    """An Emacs on a terminal of its own, which tells in a file how its seat is."""
 
     def __init__(self, client, folder, port):
+        self.folder = folder
         self.master, slave = pty.openpty()
         # Else an Emacs that can compiles the client to machine code, in a process of its own.
         as_it_is = "(setq native-comp-deferred-compilation nil native-comp-jit-compilation nil)"
-        call = f'(troop-connect "127.0.0.1" {port} "keys" "lines")'
-        words = ["emacs", "-nw", "-Q", "--eval", as_it_is, "-L", os.path.dirname(client), "-l", "troop", "--eval", call]
+        words = ["emacs", "-nw", "-Q", "--eval", as_it_is, "-L", os.path.dirname(client), "-l", os.path.join(TESTS, "keys.el"),
+                 str(port), folder]
         self.process = Process(words, stdin=slave, stdout=slave, stderr=slave, env=environment(folder), start_new_session=True,
                                preexec_fn=lambda: fcntl.ioctl(0, termios.TIOCSCTTY, 0))
         os.close(slave)
@@ -317,6 +262,67 @@ class Terminal:
             except OSError:
                 return
 
+    def has(self, **wanted):
+        """Whether the seat is like this, by what was told last."""
+        told = json.loads(read(self.folder, "keys.status") or "{}")
+        return all(told.get(key) == value for key, value in wanted.items())
+
+
+class Stage:
+    """A performer in Python and an Emacs on a terminal, where each step is taken behind a look at both."""
+
+    def __init__(self, listener, terminal):
+        self.listener, self.terminal = listener, terminal
+
+    def until(self, holds, what):
+        try:
+            self.listener.wait_until(lambda: self.terminal.look() or holds(), what)
+        except AssertionError as error:
+            told = read(self.terminal.folder, "keys.status")
+            raise AssertionError(f"{error}; Emacs told {told}, and showed {self.terminal.shown[-500:]}") from None
+
+    def becomes(self, text):
+        """Waits until both have this text, and nothing is awaited."""
+        self.until(lambda: self.listener.text() == text
+                   and self.terminal.has(asks="", awaits=0, taken=self.listener.taken, text=text, waiting=0), f"a text that isn't {text!r}")
+
+    def answer(self, question, edits, keys):
+        """Answers a question of Emacs once others' edits have come, which wait for that."""
+        self.until(lambda: self.terminal.has(asks=question, waiting=0), f"no question of {question}")
+        before = self.listener.text()
+        for place, text in edits:
+            self.listener.put_in(place, text)
+        self.until(lambda: self.terminal.has(asks=question, text=before, waiting=len(edits)), f"edits that don't wait for {question}")
+        self.terminal.press(keys)
+
+
+def press_keys(stage):
+    press, put_in, heard = stage.terminal.press, stage.listener.put_in, stage.listener.evaluations
+    stage.until(lambda: stage.terminal.has(state="playing"), "a seat that doesn't begin")
+    press("hello\r\rd1 foo\r")
+    stage.becomes("hello\n\nd1 foo\n")
+    press(PREVIOUS_LINE + EVALUATE)
+    stage.until(lambda: heard, "an evaluation that doesn't come")
+    expect([text for _, _, text in heard], ["d1 foo"])
+    press(LAST_PLACE + "abc")
+    stage.becomes("hello\n\nd1 foo\nabc")
+    put_in(0, "-- ")
+    put_in(14, "b")
+    stage.becomes("-- hello\n\nd1 fboo\nabc")
+    press(UNDO)
+    stage.becomes("-- hello\n\nd1 fboo\n")
+    # An edit that comes while a command waits for a key doesn't move what that is about to change. The c crosses the change.
+    press(FIRST_PLACE + REPLACE + "oo\r00\r")
+    stage.answer("query-replace", [(0, "oo "), (18, "c")], "y")
+    stage.becomes("oo -- hello\n\nd1 fb00c\n")
+    # Nor one that comes while a command reads a word: it has taken the ends of the region as numbers.
+    press(LAST_PLACE + PREVIOUS_LINE + SET_MARK + NEXT_WORD + RECTANGLE)
+    stage.answer("minibuffer", [(0, "> ")], "d2\r")
+    stage.becomes("> oo -- hello\n\nd2 fb00c\n")
+    press("\x1bxtroop-leave\r")
+    stage.until(lambda: stage.terminal.has(state="left"), "a leave that doesn't come")
+    press(END)
+
 
 def keys(client, program, folder):
     with serve(program) as server:
@@ -324,42 +330,11 @@ def keys(client, program, folder):
         listener = Listener(1)
         terminal = Terminal(client, folder, Link.port)
         with terminal.process as emacs:
-            press_keys(listener, terminal)
+            press_keys(Stage(listener, terminal))
             expect(emacs.wait(PATIENCE), 0)
         os.close(terminal.master)
         listener.leave()
     print("emacs: keys on a terminal")
-
-
-def press_keys(listener, terminal):
-    def until(holds, what):
-        listener.wait_until(lambda: terminal.look() or holds(), what)
-
-    def becomes(text):
-        until(lambda: listener.text() == text, f"a text that isn't {text!r}")
-
-    until(lambda: b"performer 2" in terminal.shown, "a seat that doesn't begin")
-    terminal.press("hello\r\rd1 foo\r")
-    becomes("hello\n\nd1 foo\n")
-    terminal.press(PREVIOUS_LINE + EVALUATE)
-    until(lambda: listener.evaluations, "an evaluation that doesn't come")
-    expect([text for _, _, text in listener.evaluations], ["d1 foo"])
-    terminal.press(LAST_PLACE + "abc")
-    becomes("hello\n\nd1 foo\nabc")
-    listener.put_in(0, "-- ")
-    listener.put_in(14, "b")
-    terminal.press(UNDO)
-    becomes("-- hello\n\nd1 fboo\n")
-    # An entry that comes while a command waits for a key doesn't move what it is about to change.
-    terminal.press(FIRST_PLACE + REPLACE + "oo\r00\r")
-    time.sleep(3)
-    listener.put_in(0, "oo ")
-    time.sleep(0.5)
-    terminal.press("y")
-    becomes("oo -- hello\n\nd1 fb00\n")
-    terminal.press("\x1bxtroop-leave\r")
-    until(lambda: b"Troop: left" in terminal.shown, "a leave that doesn't come")
-    terminal.press(END)
 
 
 # ---- All of it.

@@ -1020,16 +1020,25 @@ Lines are told apart as bytes, and decoded then."
 
 (defun troop--drain (process)
   "Take the lines of PROCESS, none while another is taken.
-Entries wait while a command runs: one that waits for a key, as `query-replace',
-holds places as numbers."
+Entries wait while a command may hold places."
   (cond ((process-get process 'busy) nil)
-        ((and this-command (not (eq (process-get process 'side) 'up)))
+        ((and (not (eq (process-get process 'side) 'up))
+              (troop--may-hold-places (process-get process 'seat)))
          (unless (process-get process 'waiting)
            (process-put process 'waiting t)
            (run-at-time 0.05 nil #'troop--drain-again process)))
         (t (process-put process 'busy t)
            (unwind-protect (troop--take-lines process)
              (process-put process 'busy nil)))))
+
+(defun troop--may-hold-places (seat)
+  "Return whether a command is under way that may hold places as numbers.
+One that waits for a key does, as `query-replace', and one that reads a word
+with SEAT's region active: `string-rectangle' has taken its ends by then."
+  (or this-command
+      (when-let ((window (minibuffer-selected-window)))
+        (and (eq (window-buffer window) (troop-seat-buffer seat))
+             (buffer-local-value 'mark-active (troop-seat-buffer seat))))))
 
 (defun troop--drain-again (process)
   "Take the lines of PROCESS that had to wait."

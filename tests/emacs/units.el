@@ -59,6 +59,8 @@
                                 :who 2 :joined 4 :people (list (cons 2 "two")))))
     (switch-to-buffer buffer)
     (buffer-enable-undo)
+    ;; No command is under way, though some that are tested leave a trace here.
+    (setq this-command nil)
     (troop--set-up seat)
     (troop--take-snapshot seat `((at . 5) (text . ,text)
                                  (marks . ,(unless (string-empty-p text)
@@ -199,6 +201,56 @@
         (should (equal (units-text) "abc"))
         (insert "still writable")
         (kill-buffer)))))
+
+;;;; Entries that wait
+
+(defun units-come (seat op)
+  "Let OP by performer 1 come over a link of SEAT."
+  (let ((down (or (troop--link seat 'down)
+                  (setf (alist-get 'down (troop-seat-links seat))
+                        (make-pipe-process :name "down" :noquery t
+                                           :plist (list 'seat seat 'side 'down))))))
+    (troop--filter down (troop--line `((at . ,(troop-seat-taken seat)) (who . 1)
+                                       (deed . "edit") (op . ,(vconcat op)))))
+    (accept-process-output nil 0.1)))
+
+(defun units-becomes (text)
+  "Return whether the current buffer's text becomes TEXT within some seconds."
+  (let ((end (+ (float-time) 10)))
+    (while (and (not (equal (units-text) text)) (< (float-time) end))
+      (accept-process-output nil 0.02))
+    (equal (units-text) text)))
+
+(ert-deftest entries-wait-while-a-command-waits-for-a-key ()
+  (units-with-seat "abc"
+    (let ((this-command 'query-replace))
+      (units-come seat '("one " 3))
+      (should (equal (units-text) "abc")))
+    (should (units-becomes "one abc"))))
+
+(ert-deftest entries-wait-while-a-command-reads-a-word-for-the-region ()
+  (units-with-seat "abc"
+    (let (asked-in)
+      (cl-letf (((symbol-function 'minibuffer-selected-window) (lambda () asked-in)))
+        (set-mark 4)
+        (activate-mark)
+        (setq asked-in (selected-window))
+        (units-come seat '("one " 3))
+        (should (equal (units-text) "abc"))
+        (setq asked-in nil)
+        (should (units-becomes "one abc"))
+        (setq asked-in (selected-window))
+        (deactivate-mark)
+        (units-come seat '("two " 7))
+        (should (units-becomes "two one abc"))))))
+
+(ert-deftest a-replacement-crosses-what-came-later ()
+  (units-with-seat "foo"
+    (cl-letf (((symbol-function 'read-event) (lambda (&rest _) ?y)))
+      (perform-replace "oo" "00" t nil nil))
+    (units-other seat '(1 "b" 2))
+    (should (equal (units-text) "f00b"))
+    (units-confirm seat)))
 
 ;;;; Own changes
 
