@@ -8,8 +8,7 @@ troop=$top/crates/troop/out/troop
 
 if [ ! -x "$troop" ]; then
     echo "duet: troop isn't built yet; what it stands on is proved now, on all processors, which takes half an hour or so"
-    (cd "$top" && rt all check --jobs "$(nproc)") || exit
-    (cd "$top/crates/troop" && rt run -- replay </dev/null >/dev/null) || exit
+    (cd "$top/crates/troop" && rt run --jobs "$(nproc)" -- replay </dev/null >/dev/null) || exit
 fi
 
 evening=$(mktemp -d) || exit
