@@ -1,12 +1,15 @@
 -- Each step of the ring keeps the rule, and what an end learns from it.
-use Rattle.std.proofs.Common.{◌≡◌, ◌≢◌, ℕ, zero, suc, true, false, true≢false, List, [], ◌∷◌, ◌++◌, length, set, sym, refl, ap, ◌∙◌, subst, ⊎_elim, append_assoc}
+use Rattle.std.proofs.Common.{◌≡◌, ◌≢◌, ℕ, zero, suc, true, false, true≢false, List, [], ◌∷◌, ◌++◌, length, length-append, set, sym, refl, ap, ◌∙◌, subst, ⊎_elim, append_assoc, Bool, arith}
+use Rattle.std.specs.Prelude.{IfSome, ◌≤◌}
+use Rattle.std.proofs.lemmas.List.{append-nil}
 use mathlib.Core.Option.{some, some-ne-none}
 use lib.ListN.{get_elem?}
-use Rattle.crossbeam_queue.specs.Fifo.{Pushes, Pops, Forks, Merges, Learns}
+use Rattle.crossbeam_queue.specs.Fifo.{Pushes, Pops, Forks, Merges, Learns, Held}
 use Rattle.crossbeam_queue.proofs.Lists.{at_set, at_snoc}
 use Rattle.block_queue.specs.declared.item.Item.{Item}
 use Rattle.block_queue.specs.declared.rule.EndView.{EndView}
-use Rattle.block_queue.specs.Order.{end_view, with_pushed, with_popped, KnowsEnds, IsInOrder, AreLastOf, TellsNothing}
+use Rattle.block_queue.specs.Order.{end_view, with_pushed, with_popped, KnowsEnds, IsInOrder, AreLastOf, KnowsUnpopped, KnowsWhole}
+use Rattle.block_queue.specs.Values.{told_if, IsFullBehind}
 
 at_end : (l : List EndView) (a b : EndView) (j : ℕ) → get_elem? l j ≢ some b → get_elem? (l ++ a ∷ []) j ≡ some b → j ≡ length l
 at_end [] a b zero n e = refl
@@ -118,16 +121,65 @@ merges pass v other u b a items views h at two at' =
           (λ j y apart e. now j y e apart),
     )
 
+-- the end that pushes takes in the end that pops
+pub merges_popper : (pass : ℕ) (v : EndView) (other : ℕ) (u : EndView) → v.pushes ≡ true → u.pops ≡ true
+    → Merges IsInOrder pass v other u (end_view true true v.pushed u.popped) (end_view false false [] [])
+merges_popper pass v other u a b items views h at two at' =
+    let both : EndView = end_view true true v.pushed u.popped in
+    let mine = (h.5 pass v at).0 a in
+    let was : get_elem? views other ≡ some u = ⊎_elim (λ x. absurd (two x.0)) (λ x. x.1) (at_set views pass other both u at') in
+    let theirs = (h.5 other u was).1 b in
+    let Now : ℕ → EndView → Type 0 = λ j y. j ≢ other → KnowsEnds h.0 pass h.2 h.3 j y in
+    let now : Each Now (set views pass both) =
+    each_set Now views pass both (λ _. ((λ _. mine), λ _. (refl, theirs.1))) (λ j y _ e apart. ((h.5 j y e).0, λ p. absurd (apart (((h.5 j y e).1 p).0 ∙ sym theirs.0)))) in (
+      h.0,
+      pass,
+      h.2,
+      h.3,
+      h.4,
+      each_set (KnowsEnds h.0 pass h.2 h.3) (set views pass both) other (end_view false false [] []) ((λ p. absurd (true≢false (sym p))), λ p. absurd (true≢false (sym p)))
+          (λ j y apart e. now j y e apart),
+    )
+
 -- who may push knows that what the ring holds are the last items pushed
 pub ends : (pass : ℕ) (v : EndView) → v.pushes ≡ true → Learns IsInOrder pass v (AreLastOf v.pushed)
 ends pass v a items views h at = (h.3, ((h.5 pass v at).0 a).1 ∙ h.4)
-
--- nothing is learned
-pub anything : (pass : ℕ) (v : EndView) → Learns IsInOrder pass v TellsNothing
-anything pass v items views h at = tt
 
 -- who may do both knows all that was pushed
 pub wholes : (pass : ℕ) (v : EndView) → v.pushes ≡ true → v.pops ≡ true → Learns IsInOrder pass v (λ items. v.pushed ≡ v.popped ++ items)
 wholes pass v a b items views h at =
     let mine = h.5 pass v at in
     (mine.0 a).1 ∙ h.4 ∙ ap (λ l. l ++ items) (sym (mine.1 b).1)
+
+-- who may push knows both, the second if he may pop
+pub rests : (pass : ℕ) (v : EndView) → v.pushes ≡ true → Learns IsInOrder pass v (KnowsUnpopped v)
+rests pass v a items views h at = (ends pass v a items views h at, λ b. wholes pass v a b items views h at)
+
+-- of a full ring who may push knows that no fewer items were pushed than it holds
+pub no_fewer : (room : ℕ) (v : EndView) → Held room (KnowsUnpopped v) → room ≤ length v.pushed
+no_fewer room v held =
+    let all = ap (λ (l : List Item). length l) held.2.0.1 in
+    let both = length-append held.2.0.0 held.0 in
+    let many = held.1 in
+    omega (arith, all, both, many)
+
+full_if : (pops : Bool) (room : ℕ) (popped pushed items : List Item) → length items ≡ room → (pops ≡ true → pushed ≡ popped ++ items) → IfSome (told_if pops popped) (λ out. IsFullBehind room out pushed)
+full_if false room popped pushed items many whole = tt
+full_if true room popped pushed items many whole = (items, many, whole refl)
+
+-- and who may do both, that it holds what wasn't popped
+pub all_held : (room : ℕ) (v : EndView) → Held room (KnowsUnpopped v) → IfSome (told_if v.pops v.popped) (λ out. IsFullBehind room out v.pushed)
+all_held room v held = full_if v.pops room v.popped v.pushed held.0 held.1 held.2.1
+
+-- who may pop knows it too, if he may push
+pub if_wholes : (pass : ℕ) (v : EndView) → v.pops ≡ true → Learns IsInOrder pass v (KnowsWhole v)
+if_wholes pass v b items views h at a = wholes pass v a b items views h at
+
+none_left : (pushes : Bool) (pushed popped items : List Item) → length items ≡ 0 → (pushes ≡ true → pushed ≡ popped ++ items) → IfSome (told_if pushes pushed) (λ all. all ≡ popped)
+none_left false pushed popped items none whole = tt
+none_left true pushed popped [] none whole = whole refl ∙ append-nil popped
+none_left true pushed popped (x ∷ xs) none whole = absurd (omega (arith, none))
+
+-- of an empty ring who may do both knows that all that was pushed was popped
+pub all_popped : (v w : EndView) → w ≡ v → Held 0 (KnowsWhole v) → IfSome (told_if w.pushes w.pushed) (λ all. all ≡ w.popped)
+all_popped v w same held = subst (λ (u : EndView). IfSome (told_if u.pushes u.pushed) (λ all. all ≡ u.popped)) (sym same) (none_left v.pushes v.pushed v.popped held.0 held.1 held.2)

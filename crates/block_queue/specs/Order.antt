@@ -32,6 +32,10 @@ IsInOrder items views = (feeder : ℕ) × (taker : ℕ) × (pushed : List Item) 
 abbrev pub AreLastOf : List Item → List Item → Type 0
 AreLastOf all items = (front : List Item) × (all ≡ front ++ items)
 
--- whatever the items are
-abbrev pub TellsNothing : List Item → Type 0
-TellsNothing items = Unit {0}
+-- these items are the last that the end pushed, and an end that may pop too knows that they are those that it didn't pop
+abbrev pub KnowsUnpopped : EndView → List Item → Type 0
+KnowsUnpopped v items = AreLastOf v.pushed items × (v.pops ≡ true → v.pushed ≡ v.popped ++ items)
+
+-- an end that may push too knows that what it popped, and then these items, is what was pushed
+abbrev pub KnowsWhole : EndView → List Item → Type 0
+KnowsWhole v items = v.pushes ≡ true → v.pushed ≡ v.popped ++ items

@@ -48,7 +48,20 @@ impl Join<EndView> for Ends {
     ghost spent = { end_view false false [] [] };
 }
 
-/// One item more was pushed. A full ring holds the last of the items that were.
+/// The end that pops, taken in by the one that pushes.
+pub(crate) struct PopperIn;
+
+impl Join<EndView> for PopperIn {
+    ghost use Rattle.std.specs.Prelude.{true, false, []};
+    ghost use Rattle.block_queue.specs.Order.{end_view};
+
+    ghost both = { λ v w. end_view true true v.pushed w.popped };
+
+    ghost spent = { end_view false false [] [] };
+}
+
+/// One item more was pushed. A full ring holds the last of the items that were, and who has both ends knows that it holds those that
+/// weren't popped.
 pub(crate) struct Pushed;
 
 impl Outcome<Item, EndView> for Pushed {
@@ -58,12 +71,12 @@ impl Outcome<Item, EndView> for Pushed {
 }
 
 impl Lesson<Item, EndView> for Pushed {
-    ghost use Rattle.block_queue.specs.Order.{AreLastOf};
+    ghost use Rattle.block_queue.specs.Order.{KnowsUnpopped};
 
-    ghost fact = { λ v items. AreLastOf v.pushed items };
+    ghost fact = { KnowsUnpopped };
 }
 
-/// One item more was popped. Nothing is told of an empty ring.
+/// One item more was popped. Of an empty ring who has both ends knows that all that was pushed was popped.
 pub(crate) struct Popped;
 
 impl Outcome<Item, EndView> for Popped {
@@ -73,9 +86,9 @@ impl Outcome<Item, EndView> for Popped {
 }
 
 impl Lesson<Item, EndView> for Popped {
-    ghost use Rattle.block_queue.specs.Order.{TellsNothing};
+    ghost use Rattle.block_queue.specs.Order.{KnowsWhole};
 
-    ghost fact = { λ v. TellsNothing };
+    ghost fact = { KnowsWhole };
 }
 
 /// Who has both ends knows that what was popped, and then what the ring holds, is what was pushed.

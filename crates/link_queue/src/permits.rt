@@ -1,7 +1,7 @@
 //! A number of permits.
 use std::sync::{Condvar, Mutex, Wait};
 
-/// Permits that threads take and give back. Who finds none sleeps until there is one.
+/// Permits that threads take and give back. Who finds none sleeps, and is called when one is given back.
 #[derive(Drop)]
 pub struct Permits {
     // How many there are to take.

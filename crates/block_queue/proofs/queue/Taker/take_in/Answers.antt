@@ -1,5 +1,5 @@
 use Rattle.std.proofs.Common.{rules}
-use Rattle.block_queue.proofs.IsInOrder.{merges, wholes}
+use Rattle.block_queue.proofs.IsInOrder.{merges}
 use Rattle.block_queue.proofs.queue.Taker.take_in.Goals as goal
 
 pub absorb-requires-clause-rule : goal.absorb-requires-clause-rule
