@@ -74,7 +74,8 @@ impl<S: Played> Hall<S> {
         Seat { inner, number }
     }
 
-    /// Waits for its turn, and plays the ask. `Err` is want of memory, which a free ask never meets.
+    /// Waits for its turn, and plays the ask. `Err` is want of memory, which comes only where the ask would be accepted, and
+    /// which a free ask never meets.
     pub fn call<R: Wait>(
         &self,
         rt: &R,
@@ -89,6 +90,7 @@ impl<S: Played> Hall<S> {
         ensures legal { S.legal (S.fixed self.now.first) seat.new.seen }
         ensures ok { IfOk result (λ reply. CallsTo S.answer S.accepts S.row_made (S.fixed self.now.first) ask.now seat.old reply seat.new) }
         ensures memory { OnErr result (seat.new.own ≡ seat.old.own) }
+        ensures wanting { OnErr result (S.accepts (S.fixed self.now.first) seat.new.seen ask.now ≡ true) }
         ensures free { S.is_free ask.now ≡ true → IsOk result }
     {
         let board = &self.board;

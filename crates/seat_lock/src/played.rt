@@ -42,12 +42,13 @@ pub trait Played {
     ghost legal: { Self.Fixed → List Self.Row → Type 0 };
 
     /// Answers the ask as one thread does, and adds the row that it makes, through the seat of this number, exactly where it is
-    /// accepted. Want of memory changes nothing.
+    /// accepted. Want of memory changes nothing, and comes only where the ask would be accepted.
     fn play(&mut self, seat: u64, ask: &Self::Ask) -> Result<Self::Reply, AllocError>
         ensures fixed { fixed self.new ≡ fixed self.old }
         ensures reply { IfOk result (λ r. r ≡ answer (fixed self.old) (rows self.old) ask.now) }
         ensures rows { IfOk result (λ _. rows self.new ≡ rows self.old ++ (if accepts (fixed self.old) (rows self.old) ask.now then row_made (fixed self.old) (rows self.old) seat ask.now ∷ [] else [])) }
         ensures memory { OnErr result (rows self.new ≡ rows self.old) }
+        ensures wanting { OnErr result (accepts (fixed self.old) (rows self.old) ask.now ≡ true) }
         ensures free { is_free ask.now ≡ true → IsOk result };
 
     /// How many rows it stands for, which are legal.

@@ -54,6 +54,7 @@ pub(crate) fn call_at<S: Played, R: Wait>(
     ensures legal { S.legal (S.fixed board.now.shared.key.value) inner.new.me.0.card.seen }
     ensures ok { IfOk result (λ reply. CallsView S.answer S.accepts S.row_made (S.fixed board.now.shared.key.value) number ask.now inner.old.me.0 reply inner.new.me.0) }
     ensures memory { OnErr result ((log : List S.Row) × Begins inner.old.me.0.card.seen log × (inner.new.me.0 ≡ having_seen inner.old.me.0 log)) }
+    ensures wanting { OnErr result (S.accepts (S.fixed board.now.shared.key.value) inner.new.me.0.card.seen ask.now ≡ true) }
     ensures free { S.is_free ask.now ≡ true → IsOk result }
 {
     let ticket = take_ticket(rt, board, inner);
@@ -75,6 +76,7 @@ fn play_turn<S: Played>(
     ensures legal { S.legal (S.fixed board.now.shared.key.value) inner.new.me.0.card.seen }
     ensures ok { IfOk result (λ reply. CallsView S.answer S.accepts S.row_made (S.fixed board.now.shared.key.value) number ask.now inner.old.me.0 reply inner.new.me.0) }
     ensures memory { OnErr result (inner.new.me.0 ≡ in_phase inner.old.me.0 Idle) }
+    ensures wanting { OnErr result (S.accepts (S.fixed board.now.shared.key.value) inner.new.me.0.card.seen ask.now ≡ true) }
     ensures free { S.is_free ask.now ≡ true → IsOk result }
     ensures rested { inner.new.me.1 ≡ [] }
 {

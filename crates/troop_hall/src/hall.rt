@@ -6,6 +6,7 @@ ghost use Rattle.seat_lock.specs.Values.{AccountFor, card_of};
 ghost use Rattle.troop_entry.specs.declared.call.Call.TheVariants.{Leave};
 ghost use Rattle.log_model.specs.Legal.{IsLegal};
 ghost use Rattle.log_model.specs.Log.{entries};
+ghost use Rattle.log_model.specs.Answers.{answer, is_accepted};
 ghost use Rattle.revision_log.specs.Asks.{is_free_ask};
 ghost use Rattle.troop_hall.specs.Seats.{IsDeskSeat, IsLater, IsAnswered};
 ghost use Rattle.troop_hall.specs.Knowledge.{join_at, known_at};
@@ -72,12 +73,14 @@ impl DeskHall {
         self.hall.look(seat)
     }
 
-    /// Waits for its turn, and asks the desk. `Err` is want of memory, which a leave without a number never meets.
+    /// Waits for its turn, and asks the desk. `Err` is want of memory, which comes only where the call would be placed, and which
+    /// a leave without a number never meets.
     pub fn call<R: Wait>(&self, rt: &R, seat: &mut DeskSeat, ask: &Ask) -> Result<Reply, AllocError>
         requires { IsDeskSeat self.now seat.old }
         ensures hall { IsDeskSeat self.now seat.new × IsLater seat.old seat.new }
         ensures ok { IfOk result (λ reply. IsAnswered ask.now seat.old reply seat.new) }
         ensures memory { OnErr result (seat.new.own ≡ seat.old.own) }
+        ensures wanting { OnErr result (is_accepted (answer seat.new.seen ask.now.who ask.now.num ask.now.call) ≡ true) }
         ensures free { is_free_ask ask.now ≡ true → IsOk result }
         ensures legal { IsLegal seat.new.seen }
     {

@@ -1,5 +1,5 @@
 //! What the readers of lines answer.
-ghost use Rattle.std.specs.Prelude.{◌≡◌, Option, IfOk, option_map};
+ghost use Rattle.std.specs.Prelude.{◌≡◌, Option, Ok, None, IfOk, IsErr, option_map};
 ghost use Rattle.serde_json.specs.View.{view};
 ghost use Rattle.wire_json.specs.Fields.{value_of, is_blank_line};
 ghost use Rattle.wire_json.specs.Reads.{Answers};
@@ -18,9 +18,11 @@ pub enum Read<T> {
     Memory,
 }
 
-// What was found, as an answer.
+// What was found, as an answer. It is want of memory only where that came in place of finding out.
 pub(crate) fn answer<T>(found: Result<Option<T>, AllocError>) -> Read<T>
-    ensures { (of : Option T) → IfOk found (λ o. o ≡ of) → Answers result of }
+    ensures value { (of : Option T) → IfOk found (λ o. o ≡ of) → Answers result of }
+    ensures bad { found ≡ Ok None → result ≡ Read.Bad }
+    ensures wanting { result ≡ Read.Memory → IsErr found }
 {
     match found {
         Ok(Some(value)) => Read::Value(value),

@@ -61,7 +61,7 @@ gives_cut line.Long old now new remaining0 remaining1 r (is, inl was, kept) =
 gives_cut line.Long old now new remaining0 remaining1 r (is, inr (going, long), kept) = (is, inr (sym r.as_before ∙ going, subst (IsLong old.limit) r.holds (subst (λ n. IsLong n (held_bytes now)) r.limit long)))
 gives_cut line.Fault old now new remaining0 remaining1 r (was, is, same, kept) =
     (is, same ∙ r.holds, elim r.idle [ inl going ↦ (let never : state.Fault ≡ state.Going = sym was ∙ r.as_before ∙ going in absurd cc) | inr none ↦ inl (sym r.as_before ∙ was, none) ])
-gives_cut line.Memory old now new remaining0 remaining1 r (was, is, same, kept) = (sym r.as_before ∙ was, is, same ∙ r.holds)
+gives_cut line.Memory old now new remaining0 remaining1 r (was, is, same, kept, short) = (sym r.as_before ∙ was, is, same ∙ r.holds, λ long. short (subst (λ n. IsLong n (held_bytes new)) (sym r.limit) long))
 
 keeps_cut : (result : Line) (old now new : Reader) → now.whole ≡ old.whole → Cuts result now new → KeepsWhole result old new
 keeps_cut (line.Text text) old now new same cuts = tt

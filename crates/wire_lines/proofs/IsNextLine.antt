@@ -74,7 +74,8 @@ end_of old new taken rest remaining1 remaining0 (inr (was', held_none, over)) gi
     let taken_none : taken ≡ [] = sym (ap (λ h. h ++ taken) held_none) ∙ none in
     (same ∙ (sym (ap (λ t. t ++ remaining1) taken_none) ∙ nothing), sym (ap (λ t. t ++ remaining1) taken_none) ∙ nothing)
 
-given_some : (old : Reader) (taken rest : List ℕ) (remaining0 remaining1 : Option (List ℕ)) → remaining0 ≡ in_front taken remaining1 → stream old remaining0 ≡ Some rest
+-- what remains behind the bytes that were taken
+pub given_some : (old : Reader) (taken rest : List ℕ) (remaining0 remaining1 : Option (List ℕ)) → remaining0 ≡ in_front taken remaining1 → stream old remaining0 ≡ Some rest
     → (remaining' : List ℕ) × (remaining1 ≡ Some remaining') × (rest ≡ (held_bytes old ++ taken) ++ remaining') × (remaining0 ≡ Some (taken ++ remaining'))
 given_some old taken rest remaining0 remaining1 given told =
     let (remaining', is_left, is) = in_front_some (held_bytes old ++ taken) rest remaining1 (sym told ∙ taken_behind old old taken remaining0 remaining1 given) in

@@ -1,6 +1,6 @@
 pub mod LinesArePieces
 mod HasNoFeed
-mod IsLong
+pub mod IsLong
 mod IsSound
 mod Cuts
 mod CountsFill

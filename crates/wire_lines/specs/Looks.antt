@@ -26,7 +26,8 @@ Cuts (line.Text text) old new =
 Cuts line.End old new = (old.state ≡ state.Ended) × (new.state ≡ state.Ended) × (held_bytes old ≡ []) × (held_bytes new ≡ []) × (new.whole ≡ old.whole)
 Cuts line.Long old new = (new.state ≡ state.Long) × ((old.state ≡ state.Long) ⊎ ((old.state ≡ state.Going) × IsLong old.limit (held_bytes old))) × (new.whole ≡ old.whole)
 Cuts line.Fault old new = (old.state ≡ state.Fault) × (new.state ≡ state.Fault) × (held_bytes new ≡ held_bytes old) × (new.whole ≡ old.whole)
-Cuts line.Memory old new = (old.state ≡ state.Going) × (new.state ≡ state.Going) × (held_bytes new ≡ held_bytes old) × (new.whole ≡ old.whole)
+Cuts line.Memory old new =
+    (old.state ≡ state.Going) × (new.state ≡ state.Going) × (held_bytes new ≡ held_bytes old) × (new.whole ≡ old.whole) × (IsLong old.limit (held_bytes new) → ⊥)
 
 -- looking answers, or passes over all that is held
 abbrev pub Looked : Option Line → Reader → Reader → Type 0

@@ -48,7 +48,7 @@ Gives line.Fault old new taken remaining =
     (new.state ≡ state.Fault) × (held_bytes new ≡ held_bytes old ++ taken)
     × (((old.state ≡ state.Fault) × (taken ≡ [])) ⊎ ((old.state ≡ state.Going) × HasNoFeed (held_bytes new) × (length (held_bytes new) ≤ old.limit)))
 Gives line.Memory old new taken remaining =
-    (old.state ≡ state.Going) × (new.state ≡ state.Going) × (held_bytes new ≡ held_bytes old ++ taken)
+    (old.state ≡ state.Going) × (new.state ≡ state.Going) × (held_bytes new ≡ held_bytes old ++ taken) × (IsLong old.limit (held_bytes new) → ⊥)
 
 -- an answer that gives no line leaves what is told of the last line as it was
 abbrev pub KeepsWhole : Line → Reader → Reader → Type 0

@@ -1,10 +1,10 @@
-use Rattle.std.proofs.Common.{◌≡◌, ℕ, ◌-◌, ◌≤◌, List, arith, ap, subst, refl, inr, length, drop, ◌∙◌}
+use Rattle.std.proofs.Common.{◌≡◌, ℕ, ◌-◌, ◌≤◌, List, ◌++◌, arith, ap, subst, refl, inr, length, drop, ◌∙◌}
 use Rattle.std.specs.Prelude.{slice_range}
 use Rattle.std.proofs.Common.{length-append, []}
 use Rattle.std.proofs.lemmas.List.{length-take-le, length-drop}
 use Rattle.std.proofs.Math.Nat.{sub_self}
-use Rattle.wire_lines.specs.Reader.{IsSound, held_bytes}
-use Rattle.wire_lines.proofs.IsLong.{long_pass}
+use Rattle.wire_lines.specs.Reader.{IsSound, IsLong, held_bytes}
+use Rattle.wire_lines.proofs.IsLong.{long_pass, few_not_long}
 use Rattle.wire_lines.proofs.IsSound.{pass_sound}
 use Rattle.wire_lines.proofs.reader.LineReader.pass.Goals as goal
 
@@ -84,3 +84,23 @@ returns-clause-looked c = record {
       c.in-Ok.ensures.ok []).no_feed;
   whole = ap (λ r. r.whole) c.self.view_is;
 }
+
+pub returns-in_default-clause-looked : goal.returns-in_default-clause-looked
+returns-in_default-clause-looked c =
+    let same = ap (λ l. l ++ slice_range c.self.inside.buffer c.self.inside.start c.self.inside.end) c.in_default.ensures.err ∙ ap held_bytes c.self.view_is in (
+      c.requires.going,
+      ap (λ r. r.state) c.self.view_is ∙ c.requires.going,
+      same,
+      ap (λ r. r.whole) c.self.view_is,
+      λ long. few_not_long c.args.self.now.limit (held_bytes c.args.self.now)
+          (omega (
+            arith,
+            c.if-len-self.false,
+            c.len.ensures,
+            c.self.inside.front.ok.0,
+            size c.self.inside.buffer c.self.inside.start c.self.inside.end c.self.invariant.1 c.self.invariant.2,
+            ap (λ r. r.limit) c.self.view_is,
+            ap (λ r. length (held_bytes r)) c.self.view_is,
+            length-append c.self.inside.front.items (slice_range c.self.inside.buffer c.self.inside.start c.self.inside.end),
+          )) (subst (IsLong c.args.self.now.limit) same long),
+    )
