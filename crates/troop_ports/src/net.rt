@@ -2,7 +2,7 @@
 ghost use Rattle.std.specs.Prelude.{◌≡◌, ℕ, ◌+◌, ◌<◌, List, Option, false};
 ghost use Rattle.troop_ports.specs.Faults.{AddsCount};
 ghost use Rattle.troop_ports.specs.Doors.{and_last};
-ghost use Rattle.troop_ports.specs.Nets.{Listens, CountsListen, count_listening, Dials, IfDialled, CountsDial, count_dialled};
+ghost use Rattle.troop_ports.specs.Nets.{Site, asked_at, Listens, ListensAt, CountsListen, count_listening, Dials, DialsAt, IfDialled, CountsDial, count_dialled};
 
 use crate::{Door, Link};
 
@@ -54,6 +54,9 @@ pub trait Net {
     /// How many faults there were, those of what came back among them. A count at its last value stands still.
     ghost faults: { Self → ℕ };
 
+    /// The one address at which it has doors and to which it has links, and whether another one was asked for, where that is told.
+    ghost site: { Self → Option Site };
+
     /// Opens a door at an address.
     fn listen(&mut self, addr: &str) -> Listening<Self::D>
         ensures doors { Listens result (doors self.old) (doors self.new) }
@@ -62,6 +65,8 @@ pub trait Net {
         ensures shut_doors { shut_doors self.new ≡ shut_doors self.old }
         ensures places { places self.new ≡ places self.old }
         ensures door_places { door_places self.new ≡ door_places self.old + count_listening result }
+        ensures at_site { ListensAt result (site self.old) addr.now }
+        ensures site { site self.new ≡ asked_at addr.now (site self.old) }
         ensures cause { CountsListen result (faults self.old) (faults self.new) };
 
     /// Opens a link to an address.
@@ -73,6 +78,8 @@ pub trait Net {
         ensures shut_doors { shut_doors self.new ≡ shut_doors self.old }
         ensures places { places self.new ≡ places self.old + count_dialled result }
         ensures door_places { door_places self.new ≡ door_places self.old }
+        ensures at_site { DialsAt result (site self.old) addr.now }
+        ensures site { site self.new ≡ asked_at addr.now (site self.old) }
         ensures cause { CountsDial result (faults self.old) (faults self.new) };
 
     /// Takes a link back, open or closed, with its faults. It takes no memory.
@@ -84,6 +91,7 @@ pub trait Net {
         ensures shut_doors { shut_doors self.new ≡ shut_doors self.old }
         ensures places { places self.new + 1 ≡ places self.old }
         ensures door_places { door_places self.new ≡ door_places self.old }
+        ensures site { site self.new ≡ site self.old }
         ensures count { AddsCount (Self.L.Source.faults link) (faults self.old) (faults self.new) };
 
     /// Takes a door back, with its faults. It takes no memory.
@@ -95,5 +103,6 @@ pub trait Net {
         ensures retired { retired self.new ≡ retired self.old }
         ensures places { places self.new ≡ places self.old }
         ensures door_places { door_places self.new + 1 ≡ door_places self.old }
+        ensures site { site self.new ≡ site self.old }
         ensures count { AddsCount (Self.D.faults door) (faults self.old) (faults self.new) };
 }

@@ -199,6 +199,8 @@ impl<'r, R: std::net::Net<Listener = TcpListener, Stream = TcpStream>> Net for T
 
     ghost faults = { λ net. net.faults };
 
+    ghost site = { λ _. None };
+
     fn listen(&mut self, addr: &str) -> Listening<TcpDoor> {
         match TcpListener::bind(self.rt, addr) {
             Ok(listener) if self.doors_out < u64::MAX => {
