@@ -1,5 +1,5 @@
 -- Shifts one behind another.
-use Rattle.std.proofs.Common.{◌≡◌, ℕ, ◌≤◌, List, [], ◌∷◌, ◌++◌, length, map, refl, sym, ap, ◌∙◌, Bool, Option, false, arith, length-append, append_assoc, All}
+use Rattle.std.proofs.Common.{◌≡◌, ℕ, ◌<◌, ◌≤◌, List, [], ◌∷◌, ◌++◌, length, map, refl, sym, ap, ◌∙◌, Bool, Option, true, false, ⊎_elim, arith, length-append, append_assoc, All}
 use Rattle.std.proofs.lemmas.List.{append-nil}
 use Rattle.std.proofs.lemmas.List.Elements.{All-head, All-tail}
 use Rattle.atomic_table.specs.Seated.{TableId}
@@ -8,7 +8,7 @@ use Rattle.troop_entry.specs.declared.row.Row.{Row}
 use Rattle.troop_hall.specs.Seats.{DeskHallValue}
 use Rattle.server_crew.specs.declared.shift.Shift.{Shift}
 use Rattle.server_crew.specs.declared.worker.Worker.{Worker}
-use Rattle.server_crew.specs.Shifts.{gained_rows, all_links, IsServed, IsShift, AreShifts}
+use Rattle.server_crew.specs.Shifts.{gained_rows, all_links, HaveLost, IsServedLink, IsShift, AreShifts}
 use Rattle.server_crew.specs.Workers.{IsAtWork, all_taken}
 use Rattle.server_crew.specs.Crews.{Hand, taken_by, returned_by}
 use Rattle.server_crew.proofs.IsShift.{served_later}
@@ -24,7 +24,7 @@ pub record AreHands {L : Type 0} (remaining written : L → Option (List ℕ)) (
   pub numbers : map (λ (h : Hand L). h.number) hands ≡ map (λ (s : Shift L). s.seat.number) shifts
   pub taken_are : taken_by hands ≡ taken
   pub returned_are : returned_by hands ≡ all_links shifts
-  pub served : AllOf (λ (h : Hand L). AllOf (IsServed remaining written faults closed h.number log) h.served) hands
+  pub served : AllOf (λ (h : Hand L). AllOf (IsServedLink remaining written faults closed h.number log) h.served) hands
   pub own : AllOf (λ (h : Hand L). rows_of (λ (r : Row). r.seat) h.number log ≡ gained_rows h.served) hands
 
 module _ {L : Type 0} (remaining written : L → Option (List ℕ)) (faults : L → ℕ) (closed : L → Bool) where
@@ -48,6 +48,16 @@ module _ {L : Type 0} (remaining written : L → Option (List ℕ)) (faults : L 
       let all = length-append h.0 h.1 in
       let same = ap (λ (l : List L). length l) h.2 in
       omega (arith, rest, mine, kept, all, same)
+
+  -- where one was lost, fewer are kept
+  pub links_fewer : (ss : List (Shift L)) (taken : List L) → AreShifts remaining written faults closed ss taken → HaveLost ss → length (all_links ss) < length taken
+  links_fewer [] taken h some = absurd some
+  links_fewer (s ∷ ss) taken h some =
+      let kept = length-append s.links.items (all_links ss) in
+      let all = length-append h.0 h.1 in
+      let same = ap (λ (l : List L). length l) h.2 in
+      ⊎_elim (λ (e : s.is_spoiled ≡ true). let mine = h.3.lost e in let rest = links_few ss h.1 h.4 in omega (arith, rest, mine, kept, all, same))
+      (λ (r : HaveLost ss). let mine = h.3.few in let rest = links_fewer ss h.1 h.4 r in omega (arith, rest, mine, kept, all, same)) some
 
   -- where the seats' own rows are the log's, and no link was lost
   pub hands_of : (ss : List (Shift L)) (taken : List L) (log : List Row) → AreShifts remaining written faults closed ss taken → AllOf (λ (s : Shift L). Begins s.seat.seen log) ss → AllOf (λ (s : Shift L). rows_of (λ (r : Row). r.seat) s.seat.number log ≡ s.seat.own) ss

@@ -1,10 +1,11 @@
 -- Links that are taken from a door, one after the other.
-use Rattle.std.proofs.Common.{◌≡◌, ℕ, ◌+◌, List, [], ◌∷◌, ◌++◌, length, refl, sym, ap, ◌∙◌, arith, length-append, append_assoc, Option, Some, None, option_map, subst}
+use Rattle.std.proofs.Common.{◌≡◌, ℕ, ◌+◌, List, [], ◌∷◌, ◌++◌, length, refl, sym, ap, ◌∙◌, arith, length-append, append_assoc, Option, Some, None, option_map, subst, Bool}
 use Rattle.std.specs.Prelude.{◌≤◌, IfSome}
 use Rattle.std.proofs.lemmas.List.{append-nil}
 use Rattle.troop_ports.specs.Doors.{first_of}
-use Rattle.link_queue.specs.Ends.{LinkEndValue, having_moved}
-use Rattle.server_crew.specs.Accepting.{and_more, IsWithinAsked, InTaking}
+use Rattle.link_queue.specs.declared.rule.Numbered.{Numbered}
+use Rattle.link_queue.specs.Ends.{LinkEndValue, having_put}
+use Rattle.server_crew.specs.Accepting.{and_more, IsWithinAsked, HasTaken, InTaking}
 
 and_none : (rest : Option ℕ) → rest ≡ and_more 0 rest
 and_none None = refl
@@ -40,21 +41,41 @@ module _ {L : Type 0} where
   }
 
   -- one more was taken
-  pub taking_more : (sessions rest rest' : Option ℕ) (old mid new : Option (List L)) (v w w' : LinkEndValue L) (places p p' : ℕ) (link : L) → InTaking sessions rest old mid v w places p → mid ≡ first_of link new → w' ≡ having_moved w (w.put ++ link ∷ []) w.taken → p' ≡ p + 1 → rest ≡ and_more 1 rest'
+  pub taking_more : (sessions rest rest' : Option ℕ) (old mid new : Option (List L)) (v w w' : LinkEndValue L) (places p p' : ℕ) (link : Numbered L) → InTaking sessions rest old mid v w places p → mid ≡ first_of link.link new → w' ≡ having_put w (Some link) → p' ≡ p + 1 → rest ≡ and_more 1 rest'
       → InTaking sessions rest' old new v w' places p'
   taking_more sessions rest rest' old mid new v w w' places p p' link t first moved one fewer =
       let m = t.moved in
-      let count = length-append t.links (link ∷ []) in
+      let count = length-append t.links (link.link ∷ []) in
       let places_are = m.places_are in
       record {
-        links = t.links ++ link ∷ [];
+        links = t.links ++ link.link ∷ [];
         moved = record {
           queue = ap (λ (e : LinkEndValue L). e.queue) moved ∙ m.queue;
           parts = ap (λ (e : LinkEndValue L). e.parts) moved ∙ m.parts;
-          put = ap (λ (e : LinkEndValue L). e.put) moved ∙ (ap (λ l. l ++ link ∷ []) m.put ∙ append_assoc v.put t.links (link ∷ []));
+          put = ap (λ (e : LinkEndValue L). e.put) moved ∙ (ap (λ l. l ++ link.link ∷ []) m.put ∙ append_assoc v.put t.links (link.link ∷ []));
           taken = ap (λ (e : LinkEndValue L). e.taken) moved ∙ m.taken;
-          from = m.from ∙ (ap (λ told. option_map (λ others. t.links ++ others) told) first ∙ in_front_more t.links link new);
+          from = m.from ∙ (ap (λ told. option_map (λ others. t.links ++ others) told) first ∙ in_front_more t.links link.link new);
           places_are = omega (arith, count, places_are, one);
         };
         left = t.left ∙ (ap (and_more (length t.links)) fewer ∙ (and_one (length t.links) rest' ∙ ap (λ n. and_more n rest') (omega (arith, count))));
       }
+
+  -- marks that are put behind the links change nothing of them
+  pub taken_behind : (sessions : Option ℕ) (old new : Option (List L)) (v w w' : LinkEndValue L) (places places' : ℕ) (failed : Bool) → HasTaken sessions old new v w places places' failed
+      → (w'.queue ≡ w.queue) × (w'.parts ≡ w.parts) × (w'.put ≡ w.put) × (w'.taken ≡ w.taken) → HasTaken sessions old new v w' places places' failed
+  taken_behind sessions old new v w w' places places' failed t same =
+      let m = t.moved in
+      record {
+        links = t.links;
+        moved = record { queue = same.0 ∙ m.queue; parts = same.1 ∙ m.parts; put = same.2 ∙ m.put; taken = same.3 ∙ m.taken; from = m.from; places_are = m.places_are };
+        within = t.within;
+        enough = t.enough;
+      }
+
+  -- a link that is put is no mark
+  pub marks_same : (v w w' : LinkEndValue L) (link : Numbered L) → (w.marks_put ≡ v.marks_put) × (w.marks_taken ≡ v.marks_taken) → w' ≡ having_put w (Some link) → (w'.marks_put ≡ v.marks_put) × (w'.marks_taken ≡ v.marks_taken)
+  marks_same v w w' link same moved =
+      let put = ap (λ (e : LinkEndValue L). e.marks_put) moved in
+      let taken = ap (λ (e : LinkEndValue L). e.marks_taken) moved in
+      let before = same.0 in
+      (omega (arith, put, before), taken ∙ same.1)

@@ -1,21 +1,23 @@
 -- What a server did, from what its workers did and what closed seats know.
-use Rattle.std.proofs.Common.{◌≡◌, ℕ, ◌≤◌, List, [], ◌∷◌, ◌++◌, length, map, refl, sym, ap, ◌∙◌, subst, Bool, Option, false, arith, length-append, All, inl, inr, ⊎_elim, option_map}
+use Rattle.std.proofs.Common.{◌≡◌, ◌≢◌, ℕ, ◌%◌, ◌^◌, ◌<◌, ◌≤◌, List, [], ◌∷◌, ◌++◌, length, map, suc, refl, sym, ap, ◌∙◌, subst, Bool, Option, false, arith, length-append, All, inl, inr, ⊎_elim, option_map}
 use Rattle.std.proofs.lemmas.List.Elements.{All-head, All-tail}
 use Rattle.atomic_table.specs.Seated.{TableId}
 use Rattle.seat_lock.specs.declared.board.Card.{Card}
 use Rattle.seat_lock.specs.Lists.{Begins, AllOf, IsIn, rows_of}
 use Rattle.seat_lock.specs.Settled.{AreAllSeats, IsSettled, card_indexes}
+use Rattle.seat_lock.specs.Turns.{AreDistinct}
 use Rattle.seat_lock.specs.Values.{AccountFor, card_of}
 use Rattle.seat_lock.proofs.AllOf.{all_map}
+use Rattle.seat_lock.proofs.Updated.{small_mod}
 use Rattle.troop_entry.specs.declared.row.Row.{Row}
 use Rattle.troop_hall.specs.Seats.{DeskHallValue, DeskSeatValue, IsDeskSeat}
 use Rattle.link_queue.specs.Balance.{weigh}
 use Rattle.server_crew.specs.declared.shift.Shift.{Shift}
 use Rattle.server_crew.specs.declared.worker.Worker.{Worker}
-use Rattle.server_crew.specs.Shifts.{ServedLink, taken_links, returned_links, all_links, IsShift, AreShifts}
+use Rattle.server_crew.specs.Shifts.{ServedLink, taken_links, returned_links, all_links, HaveLost, IsShift, AreShifts}
 use Rattle.server_crew.specs.Workers.{IsAtWork, indexes, all_taken}
-use Rattle.server_crew.specs.Crews.{IsRun}
-use Rattle.server_crew.proofs.AreShifts.{shifts_of, shifts_at_work, shifts_last, links_few, hands_of}
+use Rattle.server_crew.specs.Crews.{AreDifferent, IsRun}
+use Rattle.server_crew.proofs.AreShifts.{shifts_of, shifts_at_work, shifts_last, links_few, links_fewer, hands_of}
 
 module _ {A B : Type 0} where
   -- what holds of each image holds of what it is the image of
@@ -32,6 +34,27 @@ module _ {A B : Type 0} where
 each_of : {A : Type 0} (P : A → Type 0) (xs : List A) → All P xs → AllOf P xs
 each_of P [] h = tt
 each_of P (x ∷ xs) h = (All-head P x xs h, each_of P xs (All-tail P x xs h))
+
+-- below 2 ^ 64 seats, a seat with another index than these has another number
+other_number : (n : ℕ) (seat : DeskSeatValue) (seats : List DeskSeatValue) → n < 2 ^ 64 → seat.index < n → seat.number ≡ seat.index % 2 ^ 64 → AllOf (λ (c : Card Row). c.index < n) (map card_of seats) → AllOf (λ (s : DeskSeatValue). s.number ≡ s.index % 2 ^ 64) seats
+    → AllOf (λ (c : Card Row). c.index ≢ seat.index) (map card_of seats) → AllOf (λ k. k ≢ seat.number) (map (λ (s : DeskSeatValue). s.number) seats)
+other_number n seat [] few mine of below numbered apart = tt
+other_number n seat (s ∷ ss) few mine of below numbered apart =
+    let is = of ∙ small_mod seat.index (omega (arith, few, mine)) in
+    let least = below.0 in
+    let other = numbered.0 ∙ small_mod s.index (omega (arith, few, least)) in
+    ((λ same. apart.0 (sym other ∙ (same ∙ is))), other_number n seat ss few mine of below.1 numbered.1 apart.1)
+
+-- so seats with different indexes have different numbers
+numbers_differ : (n : ℕ) (seats : List DeskSeatValue) → n < 2 ^ 64 → AllOf (λ (c : Card Row). c.index < n) (map card_of seats) → AllOf (λ (s : DeskSeatValue). s.number ≡ s.index % 2 ^ 64) seats
+    → AreDistinct (map card_of seats) → AreDifferent (map (λ (s : DeskSeatValue). s.number) seats)
+numbers_differ n [] few below numbered apart = tt
+numbers_differ n (s ∷ ss) few below numbered apart = (other_number n s ss few below.0 numbered.0 below.1 numbered.1 apart.0, numbers_differ n ss few below.1 numbered.1 apart.1)
+
+-- as many cards as seats
+length-cards : (seats : List DeskSeatValue) → length (map card_of seats) ≡ length seats
+length-cards [] = refl
+length-cards (s ∷ ss) = ap suc (length-cards ss)
 
 -- what was made nowhere is anywhere
 none_in : (k : ℕ) (made : List ℕ) (is : List ℕ) → made ≡ [] → IsIn k made → IsIn k is
@@ -103,6 +126,16 @@ module _ {L : Type 0} (remaining written : L → Option (List ℕ)) (faults : L 
       let right = count_weigh (all_taken ws ++ mine) in
       omega (arith, few, same, left, right)
 
+  -- where one was lost, fewer are
+  pub lost_at_end : (ws : List (Worker L)) (last : Shift L) (mine links : List L) → All (IsAtWork remaining written faults closed hall queue) ws → IsShift remaining written faults closed last mine
+      → ((f : L → ℕ) → weigh f links ≡ weigh f (all_taken ws ++ mine)) → HaveLost (shifts_of ws ++ last ∷ []) → length (all_links (shifts_of ws ++ last ∷ [])) < length links
+  lost_at_end ws last mine links h own once some =
+      let fewer = links_fewer remaining written faults closed (shifts_of ws ++ last ∷ []) (all_taken ws ++ mine) (shifts_at_end ws last mine h own) some in
+      let same = once (λ _. 1) in
+      let left = count_weigh links in
+      let right = count_weigh (all_taken ws ++ mine) in
+      omega (arith, fewer, same, left, right)
+
   -- where no link was lost, all came back
   pub kept_at_end : (ws : List (Worker L)) (last : Shift L) (mine links : List L) → All (IsAtWork remaining written faults closed hall queue) ws → IsShift remaining written faults closed last mine
       → ((f : L → ℕ) → weigh f links ≡ weigh f (all_taken ws ++ mine)) → AllOf (λ (s : Shift L). s.is_spoiled ≡ false) (shifts_of ws ++ last ∷ []) → length (all_links (shifts_of ws ++ last ∷ [])) ≡ length links
@@ -127,14 +160,19 @@ module _ {L : Type 0} (remaining written : L → Option (List ℕ)) (faults : L 
           omega (arith, rest, out, into, images, both, all, same)
 
   -- the run
-  pub run_at_end : (ws : List (Worker L)) (last : Shift L) (mine links : List L) (start log : List Row) (old new retired retired' : Option (List L)) → All (IsAtWork remaining written faults closed hall queue) ws → IsShift remaining written faults closed last mine
-      → ((f : L → ℕ) → weigh f links ≡ weigh f (all_taken ws ++ mine)) → last.seat.index ≡ 0 → last.seat.made ≡ indexes ws → start ≡ []
+  pub run_at_end : (ws : List (Worker L)) (last : Shift L) (mine links : List L) (start log : List Row) (old new retired retired' : Option (List L)) → All (IsAtWork remaining written faults closed hall queue) ws → IsDeskSeat hall last.seat → length (seats_of (shifts_of ws ++ last ∷ [])) < 2 ^ 64
+      → IsShift remaining written faults closed last mine → ((f : L → ℕ) → weigh f links ≡ weigh f (all_taken ws ++ mine)) → last.seat.index ≡ 0 → last.seat.made ≡ indexes ws → start ≡ []
       → IsSettled (λ (r : Row). r.seat) start log (map card_of (seats_of (shifts_of ws ++ last ∷ []))) → (AreAllSeats (map card_of (seats_of (shifts_of ws ++ last ∷ []))) → AccountFor (λ (r : Row). r.seat) start log (seats_of (shifts_of ws ++ last ∷ [])))
       → AllOf (λ (s : Shift L). s.is_spoiled ≡ false) (shifts_of ws ++ last ∷ []) → old ≡ option_map (λ others. links ++ others) new → retired' ≡ option_map (λ others. others ++ all_links (shifts_of ws ++ last ∷ [])) retired
       → IsRun remaining written faults closed links log old new retired retired'
-  run_at_end ws last mine links start log old new retired retired' h own once first made empty settled account kept from back =
+  run_at_end ws last mine links start log old new retired retired' h seat fits own once first made empty settled account kept from back =
       let ss : List (Shift L) = shifts_of ws ++ last ∷ [] in
-      let whole = account (all_at_work ws last h first made) in
+      let closed_all = all_at_work ws last h first made in
+      let whole = account closed_all in
+      let most = settled.few closed_all in
+      let cards = length-cards (seats_of ss) in
+      let few : settled.seats < 2 ^ 64 = omega (arith, fits, most, cards) in
+      let numbered = all_map (IsDeskSeat hall) (λ (s : DeskSeatValue). s.number ≡ s.index % 2 ^ 64) (λ s of. of.3) (seats_of ss) (seats_at_work ws last h seat) in
       let begins = of_images (λ (s : DeskSeatValue). Begins s.seen log) (λ (s : Shift L). s.seat) ss (of_images (λ (c : Card Row). Begins c.seen log) card_of (seats_of ss) settled.begins) in
       let rows = of_images (λ (s : DeskSeatValue). rows_of (λ (r : Row). r.seat) s.number log ≡ s.own) (λ (s : Shift L). s.seat) ss whole.own in
       let hands = hands_of remaining written faults closed ss (all_taken ws ++ mine) log (shifts_at_end ws last mine h own) begins rows kept in
@@ -144,6 +182,7 @@ module _ {L : Type 0} (remaining written : L → Option (List ℕ)) (faults : L 
         from = from;
         crew = record {
           served = hands.served;
+          apart = subst AreDifferent (numbers_are ss ∙ sym hands.numbers) (numbers_differ settled.seats (seats_of ss) few settled.below numbered settled.distinct);
           own = hands.own;
           every = subst (λ numbers. AllOf (λ (r : Row). IsIn r.seat numbers) log) (numbers_are ss ∙ sym hands.numbers) (subst (AllOf (λ (r : Row). IsIn r.seat (map (λ (s : DeskSeatValue). s.number) (seats_of ss)))) all whole.every);
         };

@@ -1,17 +1,23 @@
 -- What a server did with a door's links, and what became of its log.
-use Rattle.std.specs.Prelude.{◌≡◌, ℕ, ◌≤◌, List, ◌++◌, map, flat_map, Bool, Option, option_map, Result, Ok, Err}
+use Rattle.std.specs.Prelude.{◌≡◌, ◌≢◌, ◌⊎◌, ℕ, ◌+◌, ◌<◌, ◌≤◌, List, [], ◌∷◌, ◌++◌, length, map, flat_map, Bool, Option, option_map, Result, Ok, Err}
 use Rattle.seat_lock.specs.Lists.{AllOf, IsIn, rows_of}
 use Rattle.troop_entry.specs.declared.row.Row.{Row}
 use Rattle.troop_ports.specs.Faults.{Counted}
 use Rattle.link_queue.specs.Balance.{weigh}
 use Rattle.server_crew.specs.declared.serve_error.ServeError.{ServeError}
 use Rattle.server_crew.specs.declared.serve_error.ServeError.TheVariants as error
-use Rattle.server_crew.specs.Shifts.{ServedLink, taken_links, returned_links, gained_rows, IsServed}
+use Rattle.server_crew.specs.Accepting.{IsWithinAsked}
+use Rattle.server_crew.specs.Shifts.{ServedLink, taken_links, returned_links, gained_rows, IsServedLink}
 
 -- a worker's seat by its number, and the links that it served, in order
 pub record Hand (L : Type 0) : Type 0 where
   pub number : ℕ
   pub served : List (ServedLink L)
+
+-- no two of these numbers are the same
+abbrev pub AreDifferent : List ℕ → Type 0
+AreDifferent [] = Unit {0}
+AreDifferent (n ∷ ns) = AllOf (λ k. k ≢ n) ns × AreDifferent ns
 
 module _ {L : Type 0} where
   -- the links as these workers took them, worker by worker
@@ -23,10 +29,11 @@ module _ {L : Type 0} where
   returned_by hands = flat_map (λ (h : Hand L). returned_links h.served) hands
 
 module _ {L : Type 0} (remaining written : L → Option (List ℕ)) (faults : L → ℕ) (closed : L → Bool) where
-  -- Each of these workers' links was served as a session says, with this log. The rows with a worker's number are what its links' sessions
-  -- gained, in order, and there are no others.
+  -- Each of these workers' links was served as a session says, with this log. No two workers have the same number, the rows with a worker's
+  -- number are what its links' sessions gained, in order, and there are no others.
   pub record IsCrewOf (log : List Row) (hands : List (Hand L)) : Type 0 where
-    pub served : AllOf (λ (h : Hand L). AllOf (IsServed remaining written faults closed h.number log) h.served) hands
+    pub served : AllOf (λ (h : Hand L). AllOf (IsServedLink remaining written faults closed h.number log) h.served) hands
+    pub apart : AreDifferent (map (λ (h : Hand L). h.number) hands)
     pub own : AllOf (λ (h : Hand L). rows_of (λ (r : Row). r.seat) h.number log ≡ gained_rows h.served) hands
     pub every : AllOf (λ (r : Row). IsIn r.seat (map (λ (h : Hand L). h.number) hands)) log
 
@@ -50,3 +57,19 @@ abbrev pub KeepsPlaces : {T : Type 0} → Result T ServeError → ℕ → ℕ �
 KeepsPlaces (Ok desk) before now = now ≡ before
 KeepsPlaces (Err error.DoorFault) before now = now ≡ before
 KeepsPlaces (Err error.Memory) before now = before ≤ now
+
+-- These links were taken from a door, no more than were asked for, and these came back to it: fewer than were taken, and for each of the
+-- others a place is left over.
+pub record HasDropped {L : Type 0} (sessions : Option ℕ) (links links' retired retired' : Option (List L)) (places places' : ℕ) : Type 0 where
+  pub taken : List L
+  pub returned : List L
+  pub from : links ≡ option_map (λ others. taken ++ others) links'
+  pub within : IsWithinAsked sessions (length taken)
+  pub back : retired' ≡ option_map (λ others. others ++ returned) retired
+  pub fewer : length returned < length taken
+  pub left : places' + length returned ≡ places + length taken
+
+-- Memory was wanting: to begin with, and then the door is as it was; or to keep a link, and then fewer links came back than were taken.
+abbrev pub HasWanted : {L : Type 0} → Option ℕ → Option (List L) → Option (List L) → Option (List L) → Option (List L) → ℕ → ℕ → ℕ → ℕ → Type 0
+HasWanted sessions links links' retired retired' places places' faults faults' =
+    ((links' ≡ links) × (retired' ≡ retired) × (places' ≡ places) × (faults' ≡ faults)) ⊎ HasDropped sessions links links' retired retired' places places'

@@ -10,7 +10,7 @@ use Rattle.server_crew.specs.Workers.{IsAtWork, indexes}
 module _ {L : Type 0} (remaining written : L → Option (List ℕ)) (faults : L → ℕ) (closed : L → Bool) (hall : DeskHallValue) (queue : TableId) where
   -- the crew's seats are all seats of the hall, its ends have all parts of the queue, these links were put in, and there is room for all
   -- shifts and all seats
-  pub record IsReady (links : List L) (crew : Crew L) : Type 0 where
+  pub record IsCrewReady (links : List L) (crew : Crew L) : Type 0 where
     pub seat : IsDeskSeat hall crew.first
     pub index : crew.first.index ≡ 0
     pub own : crew.first.own ≡ []

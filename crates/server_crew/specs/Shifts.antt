@@ -1,5 +1,5 @@
 -- Links that were served, and the shifts in which they were.
-use Rattle.std.specs.Prelude.{◌≡◌, ℕ, ◌≤◌, List, [], ◌∷◌, ◌++◌, length, map, flat_map, Option, Bool, true, false}
+use Rattle.std.specs.Prelude.{◌≡◌, ◌⊎◌, ℕ, ◌<◌, ◌≤◌, List, [], ◌∷◌, ◌++◌, length, map, flat_map, Option, Bool, true, false}
 use Rattle.seat_lock.specs.Lists.{AllOf}
 use Rattle.troop_entry.specs.declared.row.Row.{Row}
 use Rattle.troop_ports.specs.Bytes.{in_front}
@@ -31,10 +31,15 @@ module _ {L : Type 0} where
   abbrev pub all_links : List (Shift L) → List L
   all_links shifts = flat_map (λ (s : Shift L). s.links.items) shifts
 
+  -- a link was lost in one of these shifts
+  abbrev pub HaveLost : List (Shift L) → Type 0
+  HaveLost [] = ⊥
+  HaveLost (shift ∷ shifts) = (shift.is_spoiled ≡ true) ⊎ HaveLost shifts
+
 module _ {L : Type 0} (remaining written : L → Option (List ℕ)) (faults : L → ℕ) (closed : L → Bool) where
   -- the link was served through a seat of this number: what was read of it and written, and the rows gained, are as a session of that seat
   -- says, with this log; it came out closed
-  pub record IsServed (seat : ℕ) (log : List Row) (k : ServedLink L) : Type 0 where
+  pub record IsServedLink (seat : ℕ) (log : List Row) (k : ServedLink L) : Type 0 where
     pub seen : List Row
     pub first : First
     pub end : SessionEnd
@@ -43,15 +48,16 @@ module _ {L : Type 0} (remaining written : L → Option (List ℕ)) (faults : L 
     pub count : CountsEnd end (faults k.taken) (faults k.returned)
     pub is_closed : closed k.returned ≡ true
 
-  -- these links were served in the shift, in order: it keeps them, unless memory was wanting to keep one, and its seat's own rows are what
-  -- their sessions gained
+  -- these links were served in the shift, in order: it keeps them, unless memory was wanting to keep one, which is then lost, and its seat's
+  -- own rows are what their sessions gained
   pub record IsShift (shift : Shift L) (taken : List L) : Type 0 where
     pub served : List (ServedLink L)
     pub taken_are : taken_links served ≡ taken
     pub returned_are : shift.is_spoiled ≡ false → returned_links served ≡ shift.links.items
     pub few : length shift.links.items ≤ length taken
+    pub lost : shift.is_spoiled ≡ true → length shift.links.items < length taken
     pub own : shift.seat.own ≡ gained_rows served
-    pub sessions : AllOf (IsServed shift.seat.number shift.seat.seen) served
+    pub sessions : AllOf (IsServedLink shift.seat.number shift.seat.seen) served
 
   -- the links were served in these shifts, one shift's behind another's
   abbrev pub AreShifts : List (Shift L) → List L → Type 0

@@ -1,5 +1,5 @@
 -- Workers at their queue.
-use Rattle.std.specs.Prelude.{◌≡◌, ℕ, ◌<◌, List, [], Bool, Option, length, slice_index_or, map, flat_map}
+use Rattle.std.specs.Prelude.{◌≡◌, ℕ, ◌+◌, ◌<◌, List, [], Bool, Option, length, slice_index_or, map, flat_map}
 use Rattle.atomic_table.specs.Seated.{TableId}
 use Rattle.troop_hall.specs.Seats.{DeskHallValue, IsDeskSeat}
 use Rattle.server_crew.specs.declared.worker.Worker.{Worker}
@@ -17,13 +17,13 @@ module _ {L : Type 0} (remaining written : L → Option (List ℕ)) (faults : L 
     pub shift : IsShift remaining written faults closed w.shift w.end.taken
 
 module _ {L : Type 0} where
-  -- the worker's seat is the same
-  abbrev pub IsSameSeat : Worker L → Worker L → Type 0
-  IsSameSeat v w = w.shift.seat.index ≡ v.shift.seat.index
+  -- the worker went on until it took a mark that no more links come, and then no further; its seat is the same, and it put no mark
+  abbrev pub HasWorked : Worker L → Worker L → Type 0
+  HasWorked v w = (w.shift.seat.index ≡ v.shift.seat.index) × (w.end.marks_taken ≡ v.end.marks_taken + 1) × (w.end.marks_put ≡ v.end.marks_put)
 
-  -- each worker has the same seat as before
-  abbrev pub AreSameSeats : List (Worker L) → List (Worker L) → Type 0
-  AreSameSeats vs ws = (i : ℕ) (d : Worker L) → i < length vs → IsSameSeat (slice_index_or vs i d) (slice_index_or ws i d)
+  -- each worker did
+  abbrev pub HaveWorked : List (Worker L) → List (Worker L) → Type 0
+  HaveWorked vs ws = (i : ℕ) (d : Worker L) → i < length vs → HasWorked (slice_index_or vs i d) (slice_index_or ws i d)
 
   -- which seats they have
   abbrev pub indexes : List (Worker L) → List ℕ

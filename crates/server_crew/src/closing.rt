@@ -1,13 +1,13 @@
 //! What is done once all links are served.
-ghost use Rattle.std.specs.Prelude.{◌≡◌, ℕ, ◌+◌, ◌<◌, ◌≤◌, List, [], ◌++◌, map, flat_map, length, Option, option_map, false, vec_len, vec_capacity};
+ghost use Rattle.std.specs.Prelude.{◌≡◌, ℕ, ◌+◌, ◌<◌, ◌≤◌, List, [], ◌++◌, map, flat_map, length, Option, option_map, true, false, vec_len, vec_capacity};
 ghost use Rattle.std.specs.VecDeque.{deque_len, deque_capacity};
 ghost use Rattle.seat_lock.specs.Lists.{AllOf};
 ghost use Rattle.link_queue.specs.Balance.{weigh, whole};
 ghost use Rattle.troop_hall.specs.Seats.{IsDeskSeat, IsLater};
-ghost use Rattle.server_crew.specs.Shifts.{IsShift, all_links};
+ghost use Rattle.server_crew.specs.Shifts.{IsShift, all_links, HaveLost};
 ghost use Rattle.server_crew.specs.Workers.{all_taken};
 ghost use Rattle.log_model.specs.Legal.{IsLegal};
-ghost use Rattle.server_crew.specs.Ready.{IsReady};
+ghost use Rattle.server_crew.specs.Ready.{IsCrewReady};
 ghost use Rattle.server_crew.specs.Crews.{IsRun};
 
 use crate::crew::Crew;
@@ -42,14 +42,16 @@ pub fn close_down<D: Door, G: Gate, R: Wait>(
 ) -> Closed
 where
     D::L: Drop,
-    requires ready { IsReady D.L.Source.remaining D.L.Sink.taken D.L.Source.faults D.L.Source.closed hall queue.now crew.end.put crew }
+    requires ready { IsCrewReady D.L.Source.remaining D.L.Sink.taken D.L.Source.faults D.L.Source.closed hall queue.now.table crew.end.put crew }
     requires places { length crew.end.put ≤ D.places door.old }
     requires empty { hall.first ≡ [] }
     ensures legal { IsLegal result.desk }
     ensures links { D.links door.new ≡ D.links door.old }
     ensures run { result.is_spoiled ≡ false → (links : Option (List D.L)) → links ≡ option_map (λ others. crew.end.put ++ others) (D.links door.new) → IsRun D.L.Source.remaining D.L.Sink.taken D.L.Source.faults D.L.Source.closed crew.end.put result.desk links (D.links door.new) (D.retired door.old) (D.retired door.new) }
     ensures places { D.places door.old ≤ D.places door.new + length crew.end.put }
+    ensures lost { result.is_spoiled ≡ true → D.places door.old < D.places door.new + length crew.end.put }
     ensures all_places { result.is_spoiled ≡ false → D.places door.new + length crew.end.put ≡ D.places door.old }
+    ensures back { (returned : List D.L) × (D.retired door.new ≡ option_map (λ others. others ++ returned) (D.retired door.old)) × (D.places door.new + length returned ≡ D.places door.old) }
     ensures count { D.faults door.new ≡ D.faults door.old }
 {
     let Crew {
@@ -79,11 +81,11 @@ fn gather<L: Link + Drop>(
     mut workers: VecDeque<Worker<L>>,
     shifts: &mut VecDeque<Shift<L>>,
 )
-    requires queue { end.old.queue ≡ queue.now }
+    requires queue { end.old.queue ≡ queue.now.table }
     requires part { 0 < end.old.parts }
-    requires queues { AllOf (λ w. (w.end.queue ≡ queue.now) × (w.end.parts ≡ 1) × (w.end.put ≡ [])) workers.items }
+    requires queues { AllOf (λ w. (w.end.queue ≡ queue.now.table) × (w.end.parts ≡ 1) × (w.end.put ≡ [])) workers.items }
     requires room { deque_len shifts.old + length workers.items ≤ deque_capacity shifts.old }
-    ensures queue { (end.new.queue ≡ queue.now) × (end.new.parts ≡ end.old.parts + length workers.items) }
+    ensures queue { (end.new.queue ≡ queue.now.table) × (end.new.parts ≡ end.old.parts + length workers.items) }
     ensures moved { (end.new.put ≡ end.old.put) × (end.new.taken ≡ end.old.taken ++ all_taken workers.items) }
     ensures shifts { shifts.new.items ≡ shifts.old.items ++ map (λ w. w.shift) workers.items }
     ensures room { (deque_len shifts.new ≡ deque_len shifts.old + length workers.items) × (deque_capacity shifts.new ≡ deque_capacity shifts.old) }
@@ -106,7 +108,7 @@ fn sweep<L: Link + Drop, G: Gate, R: Wait>(
     shift: &mut Shift<L>,
 )
     requires seat { IsDeskSeat hall.now shift.old.seat }
-    requires queue { end.old.queue ≡ queue.now }
+    requires queue { end.old.queue ≡ queue.now.table }
     requires whole { end.old.parts ≡ whole }
     requires none { IsShift L.Source.remaining L.Sink.taken L.Source.faults L.Source.closed shift.old [] }
     ensures seat { IsDeskSeat hall.now shift.new.seat × IsLater shift.old.seat shift.new.seat }
@@ -138,6 +140,7 @@ where
     ensures count { D.faults door.new ≡ D.faults door.old }
     ensures seats { seats.new.items ≡ seats.old.items ++ map (λ s. s.seat) shifts.items }
     ensures spoiled { result ≡ false → AllOf (λ s. s.is_spoiled ≡ false) shifts.items }
+    ensures lost { result ≡ true → HaveLost shifts.items }
 {
     let mut is_spoiled = false;
     while let Some(shift) = shifts.pop_front() {

@@ -1,11 +1,12 @@
 //! The workers, and the acceptor beside them.
-ghost use Rattle.std.specs.Prelude.{◌≡◌, ◌<◌, [], All, IfOk};
+ghost use Rattle.std.specs.Prelude.{◌≡◌, ◌+◌, ◌<◌, [], length, All, IfOk};
 ghost use Rattle.std.specs.Thread.{IsSync};
 ghost use Rattle.server_crew.specs.Accepting.{HasTaken, CountsIf};
 ghost use Rattle.link_queue.specs.Balance.{whole};
+ghost use Rattle.link_queue.specs.Ends.{IsUnused};
 ghost use Rattle.troop_hall.specs.Seats.{IsDeskSeat};
-ghost use Rattle.server_crew.specs.Workers.{IsAtWork, AreSameSeats};
-ghost use Rattle.server_crew.specs.Ready.{IsReady};
+ghost use Rattle.server_crew.specs.Workers.{IsAtWork, HaveWorked};
+ghost use Rattle.server_crew.specs.Ready.{IsCrewReady};
 
 use crate::acceptor::accept_and_end;
 use crate::gate::Gate;
@@ -44,10 +45,10 @@ pub fn form<L: Link + Drop>(
     mut end: LinkEnd<L>,
 ) -> Result<Crew<L>, AllocError>
     requires seat { IsDeskSeat hall.now first × (first.index ≡ 0) × (first.own ≡ []) × (first.made ≡ []) }
-    requires queue { end.queue ≡ queue.now }
+    requires queue { end.queue ≡ queue.now.table }
     requires parts { end.parts ≡ whole }
-    requires none { (end.put ≡ []) × (end.taken ≡ []) }
-    ensures { IfOk result (λ crew. IsReady L.Source.remaining L.Sink.taken L.Source.faults L.Source.closed hall.now queue.now [] crew) }
+    requires none { IsUnused end }
+    ensures { IfOk result (λ crew. IsCrewReady L.Source.remaining L.Sink.taken L.Source.faults L.Source.closed hall.now queue.now.table [] crew) }
 {
     let workers = hire(alloc, hall, queue, &mut first, &mut end, WORKERS)?;
     let shifts = VecDeque::with_capacity(alloc, workers.len() + 1)?;
@@ -76,24 +77,26 @@ pub fn run<'a, D: Door + Send, G: Gate + Sync, R: Threads + Wait + Sync>(
 ) -> bool
 where
     D::L: Drop + Send,
-    requires queue { end.old.queue ≡ queue.now }
+    requires queue { end.old.queue ≡ queue.now.table }
     requires part { 0 < end.old.parts }
-    requires workers { All (IsAtWork D.L.Source.remaining D.L.Sink.taken D.L.Source.faults D.L.Source.closed hall.now queue.now) workers.old }
-    ensures workers { All (IsAtWork D.L.Source.remaining D.L.Sink.taken D.L.Source.faults D.L.Source.closed hall.now queue.now) workers.new }
-    ensures seats { AreSameSeats workers.old workers.new }
+    requires workers { All (IsAtWork D.L.Source.remaining D.L.Sink.taken D.L.Source.faults D.L.Source.closed hall.now queue.now.table) workers.old }
+    ensures workers { All (IsAtWork D.L.Source.remaining D.L.Sink.taken D.L.Source.faults D.L.Source.closed hall.now queue.now.table) workers.new }
+    ensures worked { HaveWorked workers.old workers.new }
+    ensures marks { (end.new.marks_put ≡ end.old.marks_put + length workers.old) × (end.new.marks_taken ≡ end.old.marks_taken) }
     ensures retired { D.retired door.new ≡ D.retired door.old }
     ensures taken { HasTaken sessions (D.links door.old) (D.links door.new) end.old end.new (D.places door.old) (D.places door.new) result }
     ensures count { CountsIf result (D.faults door.old) (D.faults door.new) }
 {
     let mut failed = false;
+    let count = workers.len() as u64;
     join_mut(
         rt,
         &mut || {
-            failed = accept_and_end(rt, door, sessions, queue, end);
+            failed = accept_and_end(rt, door, sessions, queue, end, count);
         },
         &mut ||
-            requires { IsSync R.row × All (IsAtWork D.L.Source.remaining D.L.Sink.taken D.L.Source.faults D.L.Source.closed hall.now queue.now) workers.now }
-            ensures { All (IsAtWork D.L.Source.remaining D.L.Sink.taken D.L.Source.faults D.L.Source.closed hall.entry.now queue.entry.now) workers.exit.now × AreSameSeats workers.entry.now workers.exit.now }
+            requires { IsSync R.row × All (IsAtWork D.L.Source.remaining D.L.Sink.taken D.L.Source.faults D.L.Source.closed hall.now queue.now.table) workers.now }
+            ensures { All (IsAtWork D.L.Source.remaining D.L.Sink.taken D.L.Source.faults D.L.Source.closed hall.entry.now queue.entry.now.table) workers.exit.now × HaveWorked workers.entry.now workers.exit.now }
         { serve_all(rt, alloc, hall, queue, gate, workers) },
     );
     failed

@@ -21,12 +21,12 @@ pub fn hire<L: Link + Drop>(
     count: u64,
 ) -> Result<Vec<Worker<L>>, AllocError>
     requires seat { IsDeskSeat hall.now first.old }
-    requires queue { end.old.queue ≡ queue.now }
+    requires queue { end.old.queue ≡ queue.now.table }
     requires parts { count < end.old.parts }
     ensures seat { IsDeskSeat hall.now first.new × (first.new.seen ≡ first.old.seen) × (first.new.own ≡ first.old.own) × (first.new.number ≡ first.old.number) × (first.new.index ≡ first.old.index) }
-    ensures queue { (end.new.queue ≡ queue.now) × (end.new.put ≡ end.old.put) × (end.new.taken ≡ end.old.taken) }
+    ensures queue { (end.new.queue ≡ queue.now.table) × (end.new.put ≡ end.old.put) × (end.new.taken ≡ end.old.taken) }
     ensures parts { IfOk result (λ _. end.new.parts + count ≡ end.old.parts) }
-    ensures workers { IfOk result (λ w. All (IsAtWork L.Source.remaining L.Sink.taken L.Source.faults L.Source.closed hall.now queue.now) w.items × (first.new.made ≡ first.old.made ++ indexes w.items) × (length w.items ≡ count)) }
+    ensures workers { IfOk result (λ w. All (IsAtWork L.Source.remaining L.Sink.taken L.Source.faults L.Source.closed hall.now queue.now.table) w.items × (first.new.made ≡ first.old.made ++ indexes w.items) × (length w.items ≡ count)) }
 {
     let mut workers = Vec::new(alloc);
     for hired in 0..count {
@@ -45,12 +45,12 @@ fn hire_one<L: Link + Drop>(
     end: &mut LinkEnd<L>,
 ) -> Worker<L>
     requires seat { IsDeskSeat hall.now first.old }
-    requires queue { end.old.queue ≡ queue.now }
+    requires queue { end.old.queue ≡ queue.now.table }
     requires parts { 1 < end.old.parts }
     ensures seat { IsDeskSeat hall.now first.new × (first.new.seen ≡ first.old.seen) × (first.new.own ≡ first.old.own) × (first.new.number ≡ first.old.number) × (first.new.index ≡ first.old.index) }
     ensures made { first.new.made ≡ first.old.made ++ result.shift.seat.index ∷ [] }
-    ensures queue { (end.new.queue ≡ queue.now) × (end.new.parts + 1 ≡ end.old.parts) × (end.new.put ≡ end.old.put) × (end.new.taken ≡ end.old.taken) }
-    ensures worker { IsAtWork L.Source.remaining L.Sink.taken L.Source.faults L.Source.closed hall.now queue.now result }
+    ensures queue { (end.new.queue ≡ queue.now.table) × (end.new.parts + 1 ≡ end.old.parts) × (end.new.put ≡ end.old.put) × (end.new.taken ≡ end.old.taken) }
+    ensures worker { IsAtWork L.Source.remaining L.Sink.taken L.Source.faults L.Source.closed hall.now queue.now.table result }
 {
     let seat = hall.seat(first);
     let end = queue.another(end);

@@ -3,7 +3,7 @@ ghost use Rattle.std.specs.Prelude.{◌≡◌, List, length, Ok, Err, IfOk, IfEr
 ghost use Rattle.troop_entry.specs.declared.row.Row.{Row};
 ghost use Rattle.log_model.specs.Legal.{IsLegal};
 ghost use Rattle.server_crew.specs.Accepting.{HasEnough, IsWithinAsked};
-ghost use Rattle.server_crew.specs.Crews.{IsRun, CountsServe, KeepsPlaces};
+ghost use Rattle.server_crew.specs.Crews.{IsRun, CountsServe, KeepsPlaces, HasWanted};
 
 use crate::ServeError;
 use crate::closing::close_down;
@@ -39,6 +39,7 @@ where
     ensures fault { result ≡ Err ServeError.DoorFault → (taken : List D.L) × (log : List Row) × IsLegal log × IsRun D.L.Source.remaining D.L.Sink.taken D.L.Source.faults D.L.Source.closed taken log (D.links door.old) (D.links door.new) (D.retired door.old) (D.retired door.new) × IsWithinAsked sessions (length taken) }
     ensures cause { CountsServe result (D.faults door.old) (D.faults door.new) }
     ensures places { KeepsPlaces result (D.places door.old) (D.places door.new) }
+    ensures wanting { result ≡ Err ServeError.Memory → HasWanted sessions (D.links door.old) (D.links door.new) (D.retired door.old) (D.retired door.new) (D.places door.old) (D.places door.new) (D.faults door.old) (D.faults door.new) }
 {
     let Ok((hall, first)) = DeskHall::new(alloc, Desk::new(alloc)) else {
         return Err(ServeError::Memory);

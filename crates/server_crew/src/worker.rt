@@ -1,6 +1,6 @@
 //! Workers, which serve links as they come.
 ghost use Rattle.std.specs.Prelude.{◌≡◌, All};
-ghost use Rattle.server_crew.specs.Workers.{IsAtWork, IsSameSeat, AreSameSeats};
+ghost use Rattle.server_crew.specs.Workers.{IsAtWork, HasWorked, HaveWorked};
 
 use crate::gate::Gate;
 use crate::shift::{Shift, serve_one};
@@ -31,9 +31,9 @@ fn work<L: Link + Drop, G: Gate, R: Wait>(
     gate: &G,
     worker: &mut Worker<L>,
 )
-    requires { IsAtWork L.Source.remaining L.Sink.taken L.Source.faults L.Source.closed hall.now queue.now worker.old }
-    ensures work { IsAtWork L.Source.remaining L.Sink.taken L.Source.faults L.Source.closed hall.now queue.now worker.new }
-    ensures same { IsSameSeat worker.old worker.new }
+    requires { IsAtWork L.Source.remaining L.Sink.taken L.Source.faults L.Source.closed hall.now queue.now.table worker.old }
+    ensures work { IsAtWork L.Source.remaining L.Sink.taken L.Source.faults L.Source.closed hall.now queue.now.table worker.new }
+    ensures worked { HasWorked worker.old worker.new }
 {
     for _ in rt.forever() {
         match queue.take(rt, &mut worker.end) {
@@ -53,17 +53,17 @@ pub fn serve_all<L: Link + Send + Drop, G: Gate + Sync, R: Threads + Wait + Sync
     gate: &G,
     workers: &mut [Worker<L>],
 )
-    requires { All (IsAtWork L.Source.remaining L.Sink.taken L.Source.faults L.Source.closed hall.now queue.now) workers.old }
-    ensures work { All (IsAtWork L.Source.remaining L.Sink.taken L.Source.faults L.Source.closed hall.now queue.now) workers.new }
-    ensures same { AreSameSeats workers.old workers.new }
+    requires { All (IsAtWork L.Source.remaining L.Sink.taken L.Source.faults L.Source.closed hall.now queue.now.table) workers.old }
+    ensures work { All (IsAtWork L.Source.remaining L.Sink.taken L.Source.faults L.Source.closed hall.now queue.now.table) workers.new }
+    ensures worked { HaveWorked workers.old workers.new }
 {
     thread::for_each_mut(
         rt,
         workers,
         WORKERS as usize,
         &|_, w: &mut Worker<L>|
-            requires { IsAtWork L.Source.remaining L.Sink.taken L.Source.faults L.Source.closed hall.now queue.now w.old }
-            ensures { IsAtWork L.Source.remaining L.Sink.taken L.Source.faults L.Source.closed hall.entry.now queue.entry.now w.new × IsSameSeat w.old w.new }
+            requires { IsAtWork L.Source.remaining L.Sink.taken L.Source.faults L.Source.closed hall.now queue.now.table w.old }
+            ensures { IsAtWork L.Source.remaining L.Sink.taken L.Source.faults L.Source.closed hall.entry.now queue.entry.now.table w.new × HasWorked w.old w.new }
         { work(rt, alloc, hall, queue, gate, w) },
     );
 }

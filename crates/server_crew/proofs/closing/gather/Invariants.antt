@@ -7,8 +7,8 @@ use Rattle.server_crew.proofs.closing.gather.Given as goal
 -- what was gathered, and what is still with the workers
 abbrev pub invariant-loop-worker : goal.invariant-loop-worker
 invariant-loop-worker g l = record {
-  queue : (l.end.queue ≡ l.queue) × (0 < l.end.parts) × (l.end.parts + length l.workers.items ≡ l.initial.end.parts + length l.initial.workers.items);
-  queues : AllOf (λ w. (w.end.queue ≡ l.queue) × (w.end.parts ≡ 1) × (w.end.put ≡ [])) l.workers.items;
+  queue : (l.end.queue ≡ l.queue.table) × (0 < l.end.parts) × (l.end.parts + length l.workers.items ≡ l.initial.end.parts + length l.initial.workers.items);
+  queues : AllOf (λ w. (w.end.queue ≡ l.queue.table) × (w.end.parts ≡ 1) × (w.end.put ≡ [])) l.workers.items;
   put : l.end.put ≡ l.initial.end.put;
   taken : l.end.taken ++ all_taken l.workers.items ≡ l.initial.end.taken ++ all_taken l.initial.workers.items;
   shifts : l.shifts.items ++ map (λ w. w.shift) l.workers.items ≡ l.initial.shifts.items ++ map (λ w. w.shift) l.initial.workers.items;

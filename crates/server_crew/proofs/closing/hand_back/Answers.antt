@@ -1,6 +1,6 @@
-use Rattle.std.proofs.Common.{rules, ◌≡◌, ◌++◌, ◌∷◌, [], ◌∙◌, ap, sym, subst, length, length-append, append_assoc, map, false, arith}
+use Rattle.std.proofs.Common.{rules, ◌≡◌, ◌++◌, ◌∷◌, [], ◌∙◌, ap, sym, subst, length, length-append, append_assoc, map, false, inl, inr, arith}
 use Rattle.seat_lock.specs.Lists.{AllOf}
-use Rattle.server_crew.specs.Shifts.{all_links}
+use Rattle.server_crew.specs.Shifts.{all_links, HaveLost}
 use Rattle.server_crew.proofs.Back.{back_many}
 use Rattle.server_crew.proofs.closing.hand_back.Goals as goal
 
@@ -24,6 +24,8 @@ loop-shift-preserved-then-is_spoiled g c =
       seats = ap (λ l. l ++ map (λ s. s.seat) c.pop_front.new.self.items) c.push_reserved.ensures.items
           ∙ (append_assoc c.loop-shift.seats.items (c.in-Some.shift.seat ∷ []) (map (λ s. s.seat) c.pop_front.new.self.items) ∙ (ap (λ l. c.loop-shift.seats.items ++ map (λ s. s.seat) l) (sym items) ∙ inv.seats));
       room = omega (arith, room, count, len, cap);
+      lost = λ _. inv.lost c.if-is_spoiled.true;
+      left = λ some. inv.left (subst HaveLost (sym items) (inr some));
       spoiled = λ e. absurd (let is = c.if-is_spoiled.true in cc);
     }
 
@@ -47,5 +49,7 @@ loop-shift-preserved g c =
       seats = ap (λ l. l ++ map (λ s. s.seat) c.pop_front.new.self.items) c.push_reserved.ensures.items
           ∙ (append_assoc c.loop-shift.seats.items (c.in-Some.shift.seat ∷ []) (map (λ s. s.seat) c.pop_front.new.self.items) ∙ (ap (λ l. c.loop-shift.seats.items ++ map (λ s. s.seat) l) (sym items) ∙ inv.seats));
       room = omega (arith, room, count, len, cap);
+      lost = λ e. inv.left (subst HaveLost (sym items) (inl e));
+      left = λ some. inv.left (subst HaveLost (sym items) (inr some));
       spoiled = λ e rest. inv.spoiled c.if-is_spoiled.false (subst (AllOf (λ s. s.is_spoiled ≡ false)) (sym items) (e, rest));
     }

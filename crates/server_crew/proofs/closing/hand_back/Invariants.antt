@@ -1,7 +1,7 @@
-use Rattle.std.proofs.Common.{◌≡◌, ◌++◌, ◌+◌, ◌≤◌, length, map, option_map, false, vec_len, vec_capacity}
+use Rattle.std.proofs.Common.{◌≡◌, ◌++◌, ◌+◌, ◌≤◌, length, map, option_map, true, false, vec_len, vec_capacity}
 use Rattle.std.specs.VecDeque.{deque_len}
 use Rattle.seat_lock.specs.Lists.{AllOf}
-use Rattle.server_crew.specs.Shifts.{all_links}
+use Rattle.server_crew.specs.Shifts.{all_links, HaveLost}
 use Rattle.server_crew.proofs.closing.hand_back.Given as goal
 
 -- what came back, and what is still in shifts
@@ -13,6 +13,8 @@ invariant-loop-shift g l = record {
   count : g.D.Door.faults l.door ≡ g.D.Door.faults l.initial.door;
   seats : l.seats.items ++ map (λ s. s.seat) l.shifts.items ≡ l.initial.seats.items ++ map (λ s. s.seat) l.initial.shifts.items;
   room : vec_len l.seats + length l.shifts.items ≤ vec_capacity l.seats;
+  lost : l.is_spoiled ≡ true → HaveLost l.initial.shifts.items;
+  left : HaveLost l.shifts.items → HaveLost l.initial.shifts.items;
   spoiled : l.is_spoiled ≡ false → AllOf (λ s. s.is_spoiled ≡ false) l.shifts.items → AllOf (λ s. s.is_spoiled ≡ false) l.initial.shifts.items;
 }
 

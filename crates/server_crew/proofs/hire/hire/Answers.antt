@@ -22,7 +22,7 @@ loop-hired-preserved g c =
       queue = search rules;
       parts = omega (arith, parts, fewer);
       count = omega (arith, one, counted, before);
-      workers = rw items (All-append (IsAtWork g.L.Source.remaining g.L.Sink.taken g.L.Source.faults g.L.Source.closed c.args.hall.now c.args.queue.now) c.loop-hired.workers.items (c.hire_one-worker.result ∷ []) inv.workers (search rules));
+      workers = rw items (All-append (IsAtWork g.L.Source.remaining g.L.Sink.taken g.L.Source.faults g.L.Source.closed c.args.hall.now c.args.queue.now.table) c.loop-hired.workers.items (c.hire_one-worker.result ∷ []) inv.workers (search rules));
       made = c.hire_one-worker.ensures.made ∙ (ap (λ l. l ++ c.hire_one-worker.result.shift.seat.index ∷ []) inv.made
           ∙ (append_assoc c.args.first.now.made (indexes c.loop-hired.workers.items) (c.hire_one-worker.result.shift.seat.index ∷ []) ∙ ap (λ l. c.args.first.now.made ++ l) (sym (ap indexes items ∙ map-append (λ w. w.shift.seat.index) c.loop-hired.workers.items (c.hire_one-worker.result ∷ [])))));
     }

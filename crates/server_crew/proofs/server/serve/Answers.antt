@@ -1,4 +1,4 @@
-use Rattle.std.proofs.Common.{rules, ◌≡◌, ◌++◌, ◌∙◌, ap, sym, subst, length, arith, All}
+use Rattle.std.proofs.Common.{rules, ◌≡◌, ◌++◌, ◌∙◌, ap, sym, subst, length, arith, inr, All, option_map}
 use Rattle.std.proofs.lemmas.List.{with_items_is}
 use Rattle.server_crew.specs.Accepting.{HasEnough}
 use Rattle.server_crew.specs.Workers.{IsAtWork, indexes}
@@ -24,8 +24,8 @@ close_down-closed-requires-clause-ready g c =
       seat = ready.seat;
       index = ready.index;
       own = ready.own;
-      made = ready.made ∙ sym (indexes_same c.as_mut_slice-workers.result.now c.run-failed.new.workers same_length c.run-failed.ensures.seats ∙ ap indexes before) ∙ ap indexes (sym items);
-      work = subst (All (IsAtWork g.D.L.Source.remaining g.D.L.Sink.taken g.D.L.Source.faults g.D.L.Source.closed c.in-Ok.hall c.in-Ok-new.queue)) (sym items) c.run-failed.ensures.workers;
+      made = ready.made ∙ sym (indexes_same c.as_mut_slice-workers.result.now c.run-failed.new.workers same_length c.run-failed.ensures.worked ∙ ap indexes before) ∙ ap indexes (sym items);
+      work = subst (All (IsAtWork g.D.L.Source.remaining g.D.L.Sink.taken g.D.L.Source.faults g.D.L.Source.closed c.in-Ok.hall c.in-Ok-new.queue.table)) (sym items) c.run-failed.ensures.workers;
       queue_is = moved.queue ∙ ready.queue_is;
       parts = omega (arith, parts, kept, same, count);
       part = omega (arith, part, kept);
@@ -54,3 +54,21 @@ returns-clause-served g c =
       run_from g.D.L.Source.remaining g.D.L.Sink.taken g.D.L.Source.faults g.D.L.Source.closed taking.links c.run-failed.new.end.put c.close_down-closed.result.desk _ _ _ _ _ _ (c.close_down-closed.ensures.run c.if-closed.false) put taking.moved.from c.close_down-closed.ensures.links c.run-failed.ensures.retired,
       subst (HasEnough c.args.sessions (length taking.links)) (sym c.close_down-closed.ensures.links) (taking.enough c.if-failed.false),
     )
+
+pub returns-then-closed-clause-wanting : goal.returns-then-closed-clause-wanting
+returns-then-closed-clause-wanting g c = λ _.
+    let taking = c.run-failed.ensures.taken in
+    let put = ap length (taking.moved.put ∙ ap (λ l. l ++ taking.links) c.in-Ok-form.ensures.put) in
+    let before = taking.moved.places_are in
+    let lost = c.close_down-closed.ensures.lost c.if-closed.true in
+    let back = c.close_down-closed.ensures.back in
+    let places = back.2 in
+    inr (record {
+      taken = taking.links;
+      returned = back.0;
+      from = taking.moved.from ∙ ap (option_map (λ others. taking.links ++ others)) (sym c.close_down-closed.ensures.links);
+      within = taking.within;
+      back = back.1 ∙ ap (option_map (λ others. others ++ back.0)) c.run-failed.ensures.retired;
+      fewer = omega (arith, put, lost, places);
+      left = omega (arith, before, places);
+    })

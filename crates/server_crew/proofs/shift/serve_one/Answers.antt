@@ -12,7 +12,7 @@ returns-in_default-clause-served g c = λ taken before.
     (one_more g.L.Source.remaining g.L.Sink.taken g.L.Source.faults g.L.Source.closed c.args.shift.now (record { seat = c.serve_link-end.new.seat; links = c.push_back.new.self; is_spoiled = true }) taken c.new-gated.result.inner c.serve_link-end.new.link.inner c.into_inner-link.result c.serve_link-end.result
     c.serve_link-end.ensures.hall.1 c.serve_link-end.ensures.session c.serve_link-end.ensures.count
     (ap g.L.Source.remaining z ∙ c.close.ensures.remaining) (ap g.L.Sink.taken z ∙ c.close.ensures.taken) (ap g.L.Source.faults z ∙ c.close.ensures.count) (ap g.L.Source.closed z ∙ c.close.ensures.closed)
-    (λ e. absurd (cc)) (omega (arith, count)) before)
+    (λ e. absurd (cc)) (omega (arith, count)) (λ _. let most = before.few in omega (arith, count, most)) before)
 
 pub returns-clause-served : goal.returns-clause-served
 returns-clause-served g c = λ taken before.
@@ -24,4 +24,4 @@ returns-clause-served g c = λ taken before.
     (one_more g.L.Source.remaining g.L.Sink.taken g.L.Source.faults g.L.Source.closed c.args.shift.now (record { seat = c.serve_link-end.new.seat; links = c.push_back.new.self; is_spoiled = c.args.shift.now.is_spoiled }) taken c.new-gated.result.inner c.serve_link-end.new.link.inner c.into_inner-link.result c.serve_link-end.result
     c.serve_link-end.ensures.hall.1 c.serve_link-end.ensures.session c.serve_link-end.ensures.count
     (ap g.L.Source.remaining z ∙ c.close.ensures.remaining) (ap g.L.Sink.taken z ∙ c.close.ensures.taken) (ap g.L.Source.faults z ∙ c.close.ensures.count) (ap g.L.Source.closed z ∙ c.close.ensures.closed)
-    (λ e. (e, pushed)) (omega (arith, count, one)) before)
+    (λ e. (e, pushed)) (omega (arith, count, one)) (λ e. let fewer = before.lost e in omega (arith, count, one, fewer)) before)
