@@ -10,7 +10,8 @@ pub record IsDrawn (n number later : ℕ) (op : Change) : Type 0 where
   pub op_is : op ≡ drawn_edit n number
   pub number_is : later ≡ number_after_edit n number
 
-by_test : (n number : ℕ) (b : Bool) → takes_away n number ≡ b
+-- both, by whether the edit takes a character away
+pub by_test : (n number : ℕ) (b : Bool) → takes_away n number ≡ b
     → (drawn_edit n number ≡ (if b then without_one (drawn_place n number) n else with_one (drawn_place n number) (drawn_letter (number_after_draw (number_after_draw number))) n))
     × (number_after_edit n number ≡ (if b then number_after_draw (number_after_draw number) else number_after_draw (number_after_draw (number_after_draw number))))
 unfolding drawn_edit number_after_edit

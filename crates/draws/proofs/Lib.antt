@@ -1,2 +1,3 @@
 mod ThreeParts
 mod DrawnEdit
+mod EditOf

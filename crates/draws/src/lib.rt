@@ -6,5 +6,7 @@
 
 mod draws;
 mod edits;
+mod laws;
 
 pub use draws::Draws;
+pub use laws::edit_law;

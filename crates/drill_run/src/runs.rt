@@ -36,6 +36,7 @@ pub fn drill<O: Sink, E: Sink>(
         (port_of (E.taken err.old) (E.taken err.new) (E.faults err.old) (E.faults err.new)) }
     ensures complete { IsCompleteDrill seed steps result.code
         (port_of (O.taken out.old) (O.taken out.new) (O.faults out.old) (O.faults out.new)) }
+    ensures still_open { (O.closed out.new ≡ false) × (E.closed err.new ≡ false) }
 {
     run(alloc, seed, steps, out).report(err)
 }
@@ -43,8 +44,9 @@ pub fn drill<O: Sink, E: Sink>(
 // Plays the steps, and writes the line.
 fn run<O: Sink>(alloc: Global, seed: u64, steps: u64, out: &mut O) -> Outcome
     requires { O.closed out.old ≡ false }
-    ensures { SaysDrilled seed steps result
+    ensures says { SaysDrilled seed steps result
         (port_of (O.taken out.old) (O.taken out.new) (O.faults out.old) (O.faults out.new)) }
+    ensures still_open { O.closed out.new ≡ false }
 {
     let Ok(line) = play(alloc, seed, steps) else {
         return Outcome::Memory;

@@ -1,5 +1,5 @@
 //! The first steps of a generated script.
-use draws::Draws;
+use draws::{Draws, edit_law};
 use drill_run::{drain_law, script_line};
 use ot_text::Text;
 use std::test::Fail;
@@ -32,6 +32,11 @@ fn the_first_draw_below_13_of_seed_1_is_3(rt: HostRuntime) {
 }
 
 #[test]
-fn the_law_is_called(_rt: HostRuntime) {
+fn the_law_of_draining_is_called(_rt: HostRuntime) {
     drain_law();
+}
+
+#[test]
+fn the_law_of_drawn_edits_is_called(_rt: HostRuntime) {
+    edit_law();
 }

@@ -45,6 +45,7 @@ pub fn jam<O: Sink, E: Sink, R: Threads + Wait + Sync>(
     ensures table { Jams performers calls seed result.0.code result.1
         (port_of (O.taken out.old) (O.taken out.new) (O.faults out.old) (O.faults out.new))
         (port_of (E.taken err.old) (E.taken err.new) (E.faults err.old) (E.faults err.new)) }
+    ensures still_open { (O.closed out.new ≡ false) × (E.closed err.new ≡ false) }
 {
     match run(rt, alloc, performers, calls, seed, out) {
         Ok(jammed) => (Outcome::Done.report(err), Some(jammed)),
@@ -67,6 +68,7 @@ fn run<O: Sink, R: Threads + Wait + Sync>(
     requires out_open { O.closed out.old ≡ false }
     ensures done { IfOk result (λ jammed. SaysJam performers calls seed Outcome.Done (Some jammed) (port_of (O.taken out.old) (O.taken out.new) (O.faults out.old) (O.faults out.new))) }
     ensures otherwise { IfErr result (λ outcome. SaysJam performers calls seed outcome None (port_of (O.taken out.old) (O.taken out.new) (O.faults out.old) (O.faults out.new))) }
+    ensures still_open { O.closed out.new ≡ false }
 {
     let Ok(jammed) = play(rt, alloc, performers, calls, seed) else {
         return Err(Outcome::Memory);

@@ -1,14 +1,13 @@
 -- A run, line by line, where the input tells its bytes.
-use Rattle.std.proofs.Common.{◌≡◌, ℕ, ◌+◌, ◌-◌, ◌<◌, ◌≤◌, List, [], ◌∷◌, ◌++◌, length, Some, None, true, false, refl, sym, ap, ◌∙◌, subst, arith, append_assoc, append-nil, inl, inr}
-use Rattle.std.specs.Prelude.{◌⊎◌, Option, IfSome, nat_lt}
+use Rattle.std.proofs.Common.{◌≡◌, ℕ, ◌+◌, ◌-◌, ◌<◌, ◌≤◌, List, [], ◌∷◌, ◌++◌, length, length-append, Some, None, true, false, refl, sym, ap, ◌∙◌, subst, arith, append_assoc, append-nil}
+use Rattle.std.specs.Prelude.{Option, IfSome, nat_lt}
 use Rattle.std.proofs.lemmas.Bool.Decides.{nat_tests}
-use Rattle.troop_ports.specs.Faults.{Counted}
 use Rattle.troop_ports.specs.Bytes.{in_front, at_end}
 use Rattle.wire_lines.specs.Lines.{HasNoFeed, line_feed, lines, whole_lines}
 use Rattle.wire_lines.specs.declared.reader.State.TheVariants as state
 use Rattle.wire_lines.specs.declared.reader.Line.TheVariants as line
 use Rattle.wire_lines.specs.Reader.{Reader, held_bytes, EndsLine, IsLong, ReadsLine}
-use Rattle.wire_lines.proofs.LinesArePieces.{none_whole, whole_piece}
+use Rattle.wire_lines.proofs.LinesArePieces.{none_whole, whole_piece, lines_of_piece}
 use Rattle.wire_lines.proofs.IsNextLine.{stream, MayGoOn, FirstLine, text_told, end_told, long_read, fault_told, first_long}
 use Rattle.world_core.specs.States.{WorldState, new_world}
 use Rattle.world_core.specs.Sound.{IsSoundWorld}
@@ -16,24 +15,29 @@ use Rattle.replay_run.specs.declared.outcome.Outcome.{Outcome}
 use Rattle.replay_run.specs.declared.outcome.Outcome.TheVariants as outcome
 use Rattle.replay_run.specs.Shown.{shown_world}
 use Rattle.replay_run.specs.Script.{most_line, meaning_of, after_meaning, shown_meaning, world_from, shown_from, world, shown, output, stop_by, stop_at, or_else, stop_from, unless_stopped, before_from, stop_of, before_stop, shown_end, all_written}
-use Rattle.replay_run.specs.Runs.{Says}
 use Rattle.replay_run.specs.Ports.{Port, port_of, Gave, Took, TookPrefix}
-use Rattle.replay_run.specs.Turns.{PlaysLine, EndsRun}
 use Rattle.replay_run.proofs.Reports.{at_end_twice}
 
--- until the input has ended: so many bytes are gone, and whatever else is taken, what was written so far, and then what its whole lines print, is
--- what the whole lines of all that print
-pub record Whole (limit : ℕ) (all rest front : List ℕ) (now : WorldState) (room n : ℕ) : Type 0 where
+-- until the input has ended: so many bytes are gone, whose lines were played, and whatever else is taken, what was written so far, and then what its whole
+-- lines print, is what the whole lines of all that print
+pub record Whole (limit : ℕ) (all rest front : List ℕ) (played : List (List ℕ)) (now : WorldState) (room n : ℕ) : Type 0 where
   pub gone : List ℕ
   pub split : all ≡ gone ++ rest
+  pub lines_are : (x : List ℕ) → lines (gone ++ x) ≡ played ++ lines x
   pub are : (x : List ℕ) → front ++ shown_from n now (before_from room n (whole_lines x)) ≡ shown (before_stop limit (whole_lines (gone ++ x)))
 
--- what was written so far, and then what the rest prints, is all that is printed; and so for the stop and for the world
+-- These lines were played, and whatever lines come behind them, what was written so far, and then what those print, is what both print; and so for the stop.
+-- What was written so far, and then what the rest prints, is all that is printed; and so for the stop and for the world.
 pub record Going (limit : ℕ) (all rest front : List ℕ) (now : WorldState) (room n : ℕ) (goes : Type 0) : Type 0 where
+  pub played : List (List ℕ)
+  pub count : length played + 1 ≡ n
+  pub splits : lines all ≡ played ++ lines rest
+  pub passes : (script : List (List ℕ)) → stop_from room n script ≡ stop_of limit (played ++ script)
+  pub writes : (script : List (List ℕ)) → front ++ shown_from n now script ≡ shown (played ++ script)
   pub stops : stop_from room n (lines rest) ≡ stop_of limit (lines all)
   pub prints : front ++ shown_from n now (before_from room n (lines rest)) ≡ shown (before_stop limit (lines all))
   pub world_is : world_from now (lines rest) ≡ world (lines all)
-  pub whole : goes → Whole limit all rest front now room n
+  pub whole : goes → Whole limit all rest front played now room n
 
 -- the same, where the input tells its bytes
 abbrev pub InPlay : ℕ → Option (List ℕ) → Reader → Option (List ℕ) → Option (List ℕ) → Option (List ℕ) → WorldState → ℕ → ℕ → Type 0
@@ -54,10 +58,15 @@ starts limit (Some all) taken reader new is none = (
   ap (λ h. in_front h (Some all)) none,
   at_end_none taken,
   record {
+    played = [];
+    count = refl;
+    splits = refl;
+    passes = λ script. refl;
+    writes = λ script. ap (λ w. shown_from 1 w script) is;
     stops = refl;
     prints = ap (λ w. shown_from 1 w (before_stop limit (lines all))) is;
     world_is = ap (λ w. world_from w (lines all)) is;
-    whole = λ goes. record { gone = []; split = refl; are = λ x. ap (λ w. shown_from 1 w (before_stop limit (whole_lines x))) is };
+    whole = λ goes. record { gone = []; split = refl; lines_are = λ x. refl; are = λ x. ap (λ w. shown_from 1 w (before_stop limit (whole_lines x))) is };
   },
 )
 
@@ -105,6 +114,10 @@ prints_more front now room n text others goes =
     append_assoc front (shown_meaning n now (meaning_of text)) (shown_from (n + 1) (after_meaning now (meaning_of text)) (before_from (room - (length text + 1)) (n + 1) others))
     ∙ ap (λ l. front ++ shown_from n now l) (sym (before_none room n text others goes))
 
+-- a line moves to those in front
+one_behind : (front : List (List ℕ)) (text : List ℕ) (others : List (List ℕ)) → front ++ text ∷ others ≡ (front ++ text ∷ []) ++ others
+one_behind front text others = sym (append_assoc front (text ∷ []) others)
+
 regroup : (gone text rest : List ℕ) → gone ++ (text ++ line_feed ∷ rest) ≡ (gone ++ (text ++ line_feed ∷ [])) ++ rest
 regroup gone text rest = ap (λ l. gone ++ l) (sym (append_assoc text (line_feed ∷ []) rest)) ∙ sym (append_assoc gone (text ++ line_feed ∷ []) rest)
 
@@ -115,12 +128,19 @@ goes_on : (limit : ℕ) (all rest rest' front text : List ℕ) (now : WorldState
 goes_on limit all rest rest' front text now room n old new g was first none goes =
     let w = g.whole was in
     record {
+      played = g.played ++ text ∷ [];
+      count = omega (arith, g.count, length-append g.played (text ∷ []));
+      splits = g.splits ∙ ap (λ ls. g.played ++ ls) first.split ∙ one_behind g.played text (lines rest');
+      passes = λ script. sym (stop_none room n text script goes) ∙ g.passes (text ∷ script) ∙ ap (stop_of limit) (one_behind g.played text script);
+      writes = λ script. append_assoc front (shown_meaning n now (meaning_of text)) (shown_from (n + 1) (after_meaning now (meaning_of text)) script) ∙ g.writes (text ∷ script)
+          ∙ ap shown (one_behind g.played text script);
       stops = sym (stop_none room n text (lines rest') goes) ∙ ap (stop_from room n) (sym first.split) ∙ g.stops;
       prints = prints_more front now room n text (lines rest') goes ∙ ap (λ l. front ++ shown_from n now (before_from room n l)) (sym first.split) ∙ g.prints;
       world_is = ap (world_from now) (sym first.split) ∙ g.world_is;
       whole = λ fed. record {
         gone = w.gone ++ (text ++ line_feed ∷ []);
         split = w.split ∙ ap (λ l. w.gone ++ l) (first.fed fed) ∙ regroup w.gone text rest';
+        lines_are = λ x. ap lines (sym (regroup w.gone text x)) ∙ w.lines_are (text ++ line_feed ∷ x) ∙ ap (λ ls. g.played ++ ls) (lines_of_piece text x none) ∙ one_behind g.played text (lines x);
         are = λ x. prints_more front now room n text (whole_lines x) goes ∙ ap (λ l. front ++ shown_from n now (before_from room n l)) (sym (whole_piece text x none))
             ∙ w.are (text ++ line_feed ∷ x) ∙ ap (λ l. shown (before_stop limit (whole_lines l))) (regroup w.gone text x);
       };
@@ -256,42 +276,3 @@ end_cut limit (Some all) remaining0 remaining1 taken0 taken1 taken2 old new now 
     (ap (λ l. shown l ++ shown_end (stop_of limit (lines all)) (lines all)) (before_all limit 1 (lines all) e.0) ∙ ap (λ s. shown (lines all) ++ shown_end s (lines all)) e.0
     ∙ ap (λ l. l ++ shown_world (world (lines all))) (sym e.1) ∙ ap (λ w. front ++ shown_world w) (sym e.2) ∙ ap (λ l. front ++ l) is)
     (took ∙ ap (λ t. at_end t some) is_front ∙ at_end_twice taken0 front some)
-
--- ---- The outcomes.
-
--- a line ends the run
-pub stopped : (o : Outcome) (limit : ℕ) (before remaining0 remaining1 taken0 taken1 taken2 : Option (List ℕ)) (old new : Reader) (text taken : List ℕ) (now now' : WorldState) (room n i0 i1 f0 f1 f2 : ℕ) → InPlay limit before old remaining0 taken0 taken1 now room n
-    → remaining0 ≡ in_front taken remaining1 → HasNoFeed text → EndsLine text (held_bytes old ++ taken) new remaining1 → length text ≤ most_line → length text + 1 ≤ room → i1 ≡ i0 → f1 ≡ f0
-    → PlaysLine (Some o) n text now now' (port_of taken1 taken2 f1 f2) → Says limit o (port_of before remaining1 i0 i1) (port_of taken0 taken2 f0 f2)
-stopped outcome.Memory limit before remaining0 remaining1 taken0 taken1 taken2 old new text taken now now' room n i0 i1 f0 f1 f2 play given none ends short fits same calm (quiet, took) =
-    (same, quiet ∙ calm, so_far limit before taken0 taken1 taken2 remaining0 old now room n f0 f2 play took)
-stopped outcome.WriteFault limit before remaining0 remaining1 taken0 taken1 taken2 old new text taken now now' room n i0 i1 f0 f1 f2 play given none ends short fits same calm (goes, fault, cut) =
-    (same, subst (λ f. Counted f f2) calm fault, cut_short limit before remaining0 remaining1 taken0 taken1 taken2 old new text taken now room n f0 f2 f1 f2 play given none ends (within_limits room n text short fits ∙ goes) cut)
-stopped outcome.NetFault limit before remaining0 remaining1 taken0 taken1 taken2 old new text taken now now' room n i0 i1 f0 f1 f2 play given none ends short fits same calm no_such = absurd no_such
-stopped (outcome.BadLine m) limit before remaining0 remaining1 taken0 taken1 taken2 old new text taken now now' room n i0 i1 f0 f1 f2 play given none ends short fits same calm (is, quiet, took) =
-    (same, quiet ∙ calm, stops_at limit before remaining0 remaining1 taken0 taken1 taken2 old new text taken now room n f0 f2 (outcome.BadLine m) play given none ends (within_limits room n text short fits ∙ is) took)
-stopped outcome.Done limit before remaining0 remaining1 taken0 taken1 taken2 old new text taken now now' room n i0 i1 f0 f1 f2 play given none ends short fits same calm no_such = absurd no_such
-stopped outcome.Usage limit before remaining0 remaining1 taken0 taken1 taken2 old new text taken now now' room n i0 i1 f0 f1 f2 play given none ends short fits same calm no_such = absurd no_such
-stopped outcome.ReadFault limit before remaining0 remaining1 taken0 taken1 taken2 old new text taken now now' room n i0 i1 f0 f1 f2 play given none ends short fits same calm no_such = absurd no_such
-stopped outcome.TooMuch limit before remaining0 remaining1 taken0 taken1 taken2 old new text taken now now' room n i0 i1 f0 f1 f2 play given none ends short fits same calm no_such = absurd no_such
-
--- the end of the script
-pub ended : (o : Outcome) (limit : ℕ) (before remaining0 remaining1 taken0 taken1 taken2 : Option (List ℕ)) (old new : Reader) (now : WorldState) (room n i0 i1 f0 f1 f2 : ℕ) → InPlay limit before old remaining0 taken0 taken1 now room n → MayGoOn old remaining0 → ReadsLine line.End old new remaining0 remaining1
-    → i1 ≡ i0 → f1 ≡ f0 → EndsRun o now (port_of taken1 taken2 f1 f2) → Says limit o (port_of before remaining1 i0 i1) (port_of taken0 taken2 f0 f2)
-ended outcome.Done limit before remaining0 remaining1 taken0 taken1 taken2 old new now room n i0 i1 f0 f1 f2 play may r same calm (quiet, took, sound) =
-    (same, quiet ∙ calm, done limit before remaining0 remaining1 taken0 taken1 taken2 old new now room n f0 f2 play may r took sound)
-ended outcome.Memory limit before remaining0 remaining1 taken0 taken1 taken2 old new now room n i0 i1 f0 f1 f2 play may r same calm (quiet, took) =
-    (same, quiet ∙ calm, so_far limit before taken0 taken1 taken2 remaining0 old now room n f0 f2 play took)
-ended outcome.WriteFault limit before remaining0 remaining1 taken0 taken1 taken2 old new now room n i0 i1 f0 f1 f2 play may r same calm (fault, cut) =
-    (same, subst (λ f. Counted f f2) calm fault, end_cut limit before remaining0 remaining1 taken0 taken1 taken2 old new now room n f0 f2 f1 f2 play may r cut)
-ended outcome.NetFault limit before remaining0 remaining1 taken0 taken1 taken2 old new now room n i0 i1 f0 f1 f2 play may r same calm no_such = absurd no_such
-ended outcome.ReadFault limit before remaining0 remaining1 taken0 taken1 taken2 old new now room n i0 i1 f0 f1 f2 play may r same calm no_such = absurd no_such
-ended outcome.Usage limit before remaining0 remaining1 taken0 taken1 taken2 old new now room n i0 i1 f0 f1 f2 play may r same calm no_such = absurd no_such
-ended (outcome.BadLine m) limit before remaining0 remaining1 taken0 taken1 taken2 old new now room n i0 i1 f0 f1 f2 play may r same calm no_such = absurd no_such
-ended outcome.TooMuch limit before remaining0 remaining1 taken0 taken1 taken2 old new now room n i0 i1 f0 f1 f2 play may r same calm no_such = absurd no_such
-
--- a fault that was answered now was counted
-pub fault_counted : (old : Reader) (remaining : Option (List ℕ)) (before now : ℕ) → MayGoOn old remaining → ((old.state ≡ state.Fault) × (now ≡ before)) ⊎ ((old.state ≡ state.Going) × Counted before now) → Counted before now
-fault_counted old remaining before now may (inr here) = here.1
-fault_counted old remaining before now (inl going) (inl was) = let never : state.Going ≡ state.Fault = sym going ∙ was.0 in absurd cc
-fault_counted old remaining before now (inr ended) (inl was) = let never : state.Ended ≡ state.Fault = sym ended.0 ∙ was.0 in absurd cc

@@ -1,5 +1,7 @@
 mod Reports
 mod InPlay
+mod Says
+mod StepOrEnd
 mod Exactly
 mod FirstStop
 mod ShownPerformers

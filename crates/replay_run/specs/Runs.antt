@@ -1,10 +1,11 @@
 -- The table of `replay`: what each outcome says of the input and of the output, where the input tells its bytes.
-use Rattle.std.specs.Prelude.{◌≡◌, ◌≢◌, ◌≤◌, ℕ, List, [], Some, None, IfSome, All}
+use Rattle.std.specs.Prelude.{◌≡◌, ◌≢◌, ◌<◌, ◌≤◌, ℕ, ◌+◌, ◌^◌, List, [], ◌++◌, length, Some, None, IfSome, All}
 use Rattle.wire_lines.specs.Lines.{lines, whole_lines}
+use Rattle.wire_lines.specs.Reader.{IsLong}
 use Rattle.world_core.specs.Sound.{IsSoundWorld}
 use Rattle.replay_run.specs.declared.outcome.Outcome.{Outcome}
 use Rattle.replay_run.specs.declared.outcome.Outcome.TheVariants as outcome
-use Rattle.replay_run.specs.Script.{world, shown, output, stop_of, before_stop, all_written, outcome_of, script_size, IsPlayable}
+use Rattle.replay_run.specs.Script.{most_line, world, shown, output, stop_of, before_stop, all_written, outcome_of, script_size, IsPlayable}
 use Rattle.replay_run.specs.Outcome.{code_of, error_line}
 use Rattle.replay_run.specs.Ports.{Port, IsCalm, IsFaulted, Gave, Took, TookPrefix, Reported}
 
@@ -17,12 +18,27 @@ abbrev pub StopsBy : ℕ → Outcome → Port → Port → Type 0
 StopsBy limit stop input out =
     IsCalm input × IsCalm out × IfSome input.before (λ bytes. (stop_of limit (lines bytes) ≡ Some stop) × Took out (shown (before_stop limit (lines bytes))))
 
+-- Memory was wanting behind these lines of the input: they were played, none of them stops a run, and what they print was written, and no more. What was taken
+-- of the input behind them doesn't begin with a line over the limit of a line, but where there are as many lines as numbers.
+pub record RanShort (limit : ℕ) (bytes : List ℕ) (input out : Port) : Type 0 where
+  pub played : List (List ℕ)
+  pub others : List (List ℕ)
+  pub splits : lines bytes ≡ played ++ others
+  pub passes : stop_of limit played ≡ None
+  pub wrote : Took out (shown played)
+  pub given : List ℕ
+  pub held : List ℕ
+  pub gave : Gave input given
+  pub given_are : lines given ≡ played ++ lines held
+  pub short : length played + 1 < 2 ^ 64 → IsLong most_line held → ⊥
+
 -- The table: what each outcome says of the input and of the output. A script that was played whole leaves a sound world.
 abbrev pub Says : ℕ → Outcome → Port → Port → Type 0
 Says limit outcome.Done input out =
     IsCalm input × IsCalm out × IfSome input.before (λ bytes. (stop_of limit (lines bytes) ≡ None) × (input.after ≡ Some []) × Took out (output (lines bytes)) × IsSoundWorld (world (lines bytes)))
 Says limit outcome.Usage input out = ⊥
-Says limit outcome.Memory input out = IsCalm input × IsCalm out × IfSome input.before (λ bytes. TookPrefix out (all_written limit (lines bytes)))
+Says limit outcome.Memory input out =
+    IsCalm input × IsCalm out × IfSome input.before (λ bytes. TookPrefix out (all_written limit (lines bytes)) × RanShort limit bytes input out)
 Says limit outcome.ReadFault input out =
     IsFaulted input × IsCalm out × IfSome input.before (λ _. (given : List ℕ) × Gave input given × Took out (shown (before_stop limit (whole_lines given))))
 Says limit outcome.WriteFault input out = IsCalm input × IsFaulted out × IfSome input.before (λ bytes. TookPrefix out (all_written limit (lines bytes)))

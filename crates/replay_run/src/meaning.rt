@@ -1,6 +1,8 @@
 //! What a line of a script means.
-ghost use Rattle.std.specs.Prelude.{◌≡◌, IfOk};
-ghost use Rattle.replay_run.specs.Script.{meaning_of};
+ghost use Rattle.std.specs.Prelude.{◌≡◌, Option, IfOk, OnErr};
+ghost use Rattle.wire_json.specs.Reads.{Answers};
+ghost use Rattle.wire_json.specs.declared.steps.Step.{Step};
+ghost use Rattle.replay_run.specs.Script.{meaning_of, meaning_of_step};
 
 use std::alloc::{AllocError, Global};
 use wire_json::{Read, Step, is_blank_line, read_step};
@@ -24,7 +26,15 @@ pub fn read_line(alloc: Global, line: &[u8]) -> Result<Meaning, AllocError>
     if is_blank_line(line) {
         return Ok(Meaning::Blank);
     }
-    match read_step(alloc, line) {
+    meaning_in(read_step(alloc, line))
+}
+
+// What a line means that has more than white space, by what was read.
+fn meaning_in(read: Read<Step>) -> Result<Meaning, AllocError>
+    ensures meaning { (step : Option Step) → Answers read step → IfOk result (λ meaning. meaning ≡ meaning_of_step step) }
+    ensures wanting { OnErr result (read ≡ Read.Memory) }
+{
+    match read {
         Read::Value(step) => Ok(Meaning::Step(step)),
         Read::Bad => Ok(Meaning::Bad),
         Read::Memory => Err(AllocError),

@@ -7,7 +7,7 @@ use troop_ports::Status;
 /// How a run of the program ends.
 #[derive(Clone, Copy, Debug, PartialEq, Eq)]
 pub enum Outcome {
-    /// The whole script was played, and all that it prints was written.
+    /// All that was asked was done, and all that is to be printed was written.
     Done,
     /// The words name no command.
     Usage,

@@ -15,6 +15,7 @@ impl Outcome {
         requires { E.closed err.old ≡ false }
         ensures status { result.code ≡ code_of self }
         ensures line { Reported (port_of (E.taken err.old) (E.taken err.new) (E.faults err.old) (E.faults err.new)) (error_line self) }
+        ensures still_open { E.closed err.new ≡ false }
     {
         report_line(self, err);
         self.status()
@@ -24,7 +25,8 @@ impl Outcome {
 // Writes the line of an outcome.
 fn report_line<E: Sink>(outcome: Outcome, err: &mut E)
     requires { E.closed err.old ≡ false }
-    ensures { Reported (port_of (E.taken err.old) (E.taken err.new) (E.faults err.old) (E.faults err.new)) (error_line outcome) }
+    ensures line { Reported (port_of (E.taken err.old) (E.taken err.new) (E.faults err.old) (E.faults err.new)) (error_line outcome) }
+    ensures still_open { E.closed err.new ≡ false }
 {
     match outcome {
         Outcome::Done => {}
@@ -41,7 +43,8 @@ fn report_line<E: Sink>(outcome: Outcome, err: &mut E)
 // Writes a line, or as much of it as is taken before a fault.
 fn write_line<E: Sink>(err: &mut E, line: &[u8])
     requires { E.closed err.old ≡ false }
-    ensures { Reported (port_of (E.taken err.old) (E.taken err.new) (E.faults err.old) (E.faults err.new)) line.now }
+    ensures line { Reported (port_of (E.taken err.old) (E.taken err.new) (E.faults err.old) (E.faults err.new)) line.now }
+    ensures still_open { E.closed err.new ≡ false }
 {
     let _ = write_all(err, line);
 }
@@ -51,8 +54,9 @@ fn write_line<E: Sink>(err: &mut E, line: &[u8])
 /// It takes no memory.
 pub fn report_number<E: Sink>(before: &[u8], number: u64, behind: &[u8], err: &mut E)
     requires { E.closed err.old ≡ false }
-    ensures { Reported (port_of (E.taken err.old) (E.taken err.new) (E.faults err.old) (E.faults err.new))
+    ensures line { Reported (port_of (E.taken err.old) (E.taken err.new) (E.faults err.old) (E.faults err.new))
         (before.now ++ (decimal number ++ behind.now)) }
+    ensures still_open { E.closed err.new ≡ false }
 {
     match write_all(err, before) {
         Written::All => report_from_number(number, behind, err),
@@ -63,8 +67,9 @@ pub fn report_number<E: Sink>(before: &[u8], number: u64, behind: &[u8], err: &m
 // Writes such a line from its number on.
 fn report_from_number<E: Sink>(number: u64, behind: &[u8], err: &mut E)
     requires { E.closed err.old ≡ false }
-    ensures { Reported (port_of (E.taken err.old) (E.taken err.new) (E.faults err.old) (E.faults err.new))
+    ensures line { Reported (port_of (E.taken err.old) (E.taken err.new) (E.faults err.old) (E.faults err.new))
         (decimal number ++ behind.now) }
+    ensures still_open { E.closed err.new ≡ false }
 {
     let mut buffer = Buffer::new();
     let digits = buffer.format(number);
@@ -76,8 +81,9 @@ fn report_from_number<E: Sink>(number: u64, behind: &[u8], err: &mut E)
 /// It takes no memory.
 pub fn report_parts<E: Sink>(first: &[u8], behind: &[u8], err: &mut E)
     requires { E.closed err.old ≡ false }
-    ensures { Reported (port_of (E.taken err.old) (E.taken err.new) (E.faults err.old) (E.faults err.new))
+    ensures line { Reported (port_of (E.taken err.old) (E.taken err.new) (E.faults err.old) (E.faults err.new))
         (first.now ++ behind.now) }
+    ensures still_open { E.closed err.new ≡ false }
 {
     match write_all(err, first) {
         Written::All => write_line(err, behind),

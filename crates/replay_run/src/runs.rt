@@ -3,14 +3,15 @@ ghost use Rattle.std.specs.Prelude.{◌≡◌, false};
 ghost use Rattle.world_core.specs.Values.{state_of};
 ghost use Rattle.replay_run.specs.Ports.{port_of};
 ghost use Rattle.replay_run.specs.Runs.{most_input, Says, Replays, IsExact, IsHeadline, IsComplete};
-ghost use Rattle.replay_run.specs.Turns.{PlaysLine, EndsRun};
+ghost use Rattle.replay_run.specs.Turns.{PlaysLine, EndsRun, step_or_end};
 
 use crate::Outcome;
 use crate::meaning::{Meaning, read_line};
 use crate::shown::show_world;
 use crate::steps::play_step;
-use std::alloc::Global;
+use std::alloc::{AllocError, Global};
 use troop_ports::{Sink, Source, Status, Written, write_all};
+use wire_json::Step;
 use wire_lines::{Line, LineReader};
 use world_core::World;
 
@@ -44,6 +45,7 @@ pub fn replay<I: Source, O: Sink, E: Sink>(
     ensures complete { IsComplete most_input result.code
         (port_of (I.remaining input.old) (I.remaining input.new) (I.faults input.old) (I.faults input.new))
         (port_of (O.taken out.old) (O.taken out.new) (O.faults out.old) (O.faults out.new)) }
+    ensures still_open { (I.closed input.new ≡ false) × (O.closed out.new ≡ false) × (E.closed err.new ≡ false) }
 {
     replay_upto(alloc, MOST_INPUT, input, out, err)
 }
@@ -77,6 +79,7 @@ pub fn replay_upto<I: Source, O: Sink, E: Sink>(
     ensures complete { IsComplete limit result.code
         (port_of (I.remaining input.old) (I.remaining input.new) (I.faults input.old) (I.faults input.new))
         (port_of (O.taken out.old) (O.taken out.new) (O.faults out.old) (O.faults out.new)) }
+    ensures still_open { (I.closed input.new ≡ false) × (O.closed out.new ≡ false) × (E.closed err.new ≡ false) }
 {
     run(alloc, limit, input, out).report(err)
 }
@@ -85,9 +88,10 @@ pub fn replay_upto<I: Source, O: Sink, E: Sink>(
 fn run<I: Source, O: Sink>(alloc: Global, limit: u64, input: &mut I, out: &mut O) -> Outcome
     requires input_open { I.closed input.old ≡ false }
     requires out_open { O.closed out.old ≡ false }
-    ensures { Says limit result
+    ensures says { Says limit result
         (port_of (I.remaining input.old) (I.remaining input.new) (I.faults input.old) (I.faults input.new))
         (port_of (O.taken out.old) (O.taken out.new) (O.faults out.old) (O.faults out.new)) }
+    ensures still_open { (I.closed input.new ≡ false) × (O.closed out.new ≡ false) }
 {
     let mut reader = LineReader::new(alloc, MOST_LINE);
     let mut world = World::new(alloc);
@@ -106,10 +110,7 @@ fn run<I: Source, O: Sink>(alloc: Global, limit: u64, input: &mut I, out: &mut O
             Line::Memory => return Outcome::Memory,
         };
         let size = line.len() as u64 + 1;
-        if size > room {
-            return Outcome::TooMuch;
-        }
-        if let Some(outcome) = play_line(alloc, number, &line, &mut world, out) {
+        if let Some(outcome) = play_line(alloc, number, room, &line, &mut world, out) {
             return outcome;
         }
         room -= size;
@@ -117,24 +118,27 @@ fn run<I: Source, O: Sink>(alloc: Global, limit: u64, input: &mut I, out: &mut O
     }
 }
 
-// Plays one line, and writes what it prints. The answer is how the run ends, if it ends here.
+// Plays one line where there is room for it, and writes what it prints. The answer is how the run ends, if it ends here.
 fn play_line<O: Sink>(
     alloc: Global,
     number: u64,
+    room: u64,
     line: &[u8],
     world: &mut World,
     out: &mut O,
 ) -> Option<Outcome>
     requires { O.closed out.old ≡ false }
-    ensures plays { PlaysLine result number line.now (state_of world.old) (state_of world.new)
+    ensures plays { PlaysLine result room number line.now (state_of world.old) (state_of world.new)
         (port_of (O.taken out.old) (O.taken out.new) (O.faults out.old) (O.faults out.new)) }
     ensures still_open { O.closed out.new ≡ false }
 {
-    let step = match read_line(alloc, line) {
-        Ok(Meaning::Blank) => return None,
-        Ok(Meaning::Step(step)) => step,
-        Ok(Meaning::Bad) => return Some(Outcome::BadLine(number)),
-        Err(_) => return Some(Outcome::Memory),
+    if line.len() as u64 >= room {
+        return Some(Outcome::TooMuch);
+    }
+    let step = match step_or_end(number, read_line(alloc, line)) {
+        Ok(Some(step)) => step,
+        Ok(None) => return None,
+        Err(outcome) => return Some(outcome),
     };
     let Ok(shown) = play_step(alloc, number, &step, world) else {
         return Some(Outcome::Memory);
@@ -145,11 +149,24 @@ fn play_line<O: Sink>(
     }
 }
 
+// The step that a line is, if it is one, or how the run ends at it.
+fn step_or_end(number: u64, read: Result<Meaning, AllocError>) -> Result<Option<Step>, Outcome>
+    ensures { result ≡ step_or_end number read }
+{
+    match read {
+        Ok(Meaning::Blank) => Ok(None),
+        Ok(Meaning::Step(step)) => Ok(Some(step)),
+        Ok(Meaning::Bad) => Err(Outcome::BadLine(number)),
+        Err(_) => Err(Outcome::Memory),
+    }
+}
+
 // Prints the whole world behind the last line.
 fn finish<O: Sink>(alloc: Global, world: &World, out: &mut O) -> Outcome
     requires { O.closed out.old ≡ false }
-    ensures { EndsRun result (state_of world.now)
+    ensures ends { EndsRun result (state_of world.now)
         (port_of (O.taken out.old) (O.taken out.new) (O.faults out.old) (O.faults out.new)) }
+    ensures still_open { O.closed out.new ≡ false }
 {
     let Ok(shown) = show_world(alloc, world) else {
         return Outcome::Memory;
