@@ -1,5 +1,5 @@
 -- What is fed, block by block.
-use Rattle.std.proofs.Common.{◌≡◌, ℕ, ◌+◌, ◌-◌, ◌^◌, ◌<◌, ◌≤◌, Bool, true, false, List, [], ◌∷◌, ◌++◌, length, Option, None, Some, refl, sym, ap, ◌∙◌, subst, append_assoc, append-nil, arith}
+use Rattle.std.proofs.Common.{◌≡◌, ℕ, ◌+◌, ◌-◌, ◌^◌, ◌<◌, ◌≤◌, Bool, true, false, List, [], ◌∷◌, ◌++◌, length, Option, None, Some, refl, sym, ap, ◌∙◌, subst, append_assoc, append-nil, length-append, arith}
 use Rattle.std.specs.Prelude.{IsSome, IfSome, option_map}
 use Rattle.seat_lock.specs.Lists.{Begins}
 use Rattle.troop_entry.specs.declared.block.Block.{Block}
@@ -67,7 +67,10 @@ rising_front (x ∷ xs) b h =
 
 -- nothing was fed
 pub fed_none : (d : ToldDriver) → FedSome false [] d d
-fed_none d = record { fed = []; first = ([], refl); all = λ e. refl; same = same_none d; told = λ rise h. h; bounded = bounded_none d }
+fed_none d = record { fed = []; first = ([], refl); all = λ e. refl; few = λ e. absurd (cc); same = same_none d; told = λ rise h. h; bounded = bounded_none d }
+
+less_more : (fed blocks : List Block) (b : Block) → Begins fed blocks → length fed < length (blocks ++ b ∷ [])
+less_more fed blocks b first = omega (arith, ap length first.1, length-append fed first.0, length-append blocks (b ∷ []))
 
 -- a block that isn't fed
 pub fed_less : (starved : Bool) (blocks : List Block) (b : Block) (first now : ToldDriver) → FedSome starved blocks first now → FedSome true (blocks ++ b ∷ []) first now
@@ -75,6 +78,7 @@ fed_less starved blocks b first now h = record {
   fed = h.fed;
   first = (h.first.0 ++ b ∷ [], sym (append_assoc h.fed h.first.0 (b ∷ [])) ∙ ap (λ l. l ++ b ∷ []) h.first.1);
   all = λ e. absurd (cc);
+  few = λ e. less_more h.fed blocks b h.first;
   same = h.same;
   told = h.told;
   bounded = h.bounded;
@@ -89,6 +93,7 @@ fed_more blocks b first old new h same told bounded =
       fed = blocks ++ b ∷ [];
       first = ([], append-nil (blocks ++ b ∷ []));
       all = λ e. refl;
+      few = λ e. absurd (cc);
       same = same_more first old new h.same same;
       told = λ rise start.
           let r = rising_front blocks b rise in
@@ -104,6 +109,7 @@ fed_closed starved blocks first old new h same told bounded = record {
   fed = h.fed;
   first = h.first;
   all = h.all;
+  few = h.few;
   same = same_more first old new h.same same;
   told = λ rise start. told h.fed (h.told rise start);
   bounded = bounded_more first old new h.bounded bounded;

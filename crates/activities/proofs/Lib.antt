@@ -6,4 +6,5 @@ pub mod MachineAt
 pub mod FedSome
 pub mod TookDown
 pub mod SentUp
+pub mod Halts
 pub mod RanCommands

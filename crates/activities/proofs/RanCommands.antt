@@ -372,27 +372,27 @@ run_more o name who told mid left remaining before now next s t u number more si
     run_blank o name who told mid left before now next s t u number more size total (Ok flow.On) h count did
 run_more o name who told mid left remaining before now next s t u number more size total h same count (inr (inr none)) = absurd none.none
 
-cut_end : (o : Origin) (name : List ℕ) (who number size : ℕ) (seen : List PlacedAct) (last : List (List ℕ)) (front : List ℕ) (rest : Option (List ℕ)) (e : PerformError)
-    → IsCommandFault e → CutLine o name who seen last front → CommandsEnd o number size name who seen last front rest (Err e)
-cut_end o name who number size seen last front rest error.ReadFault h cut = absurd h
-cut_end o name who number size seen last front rest error.WriteFault h cut = cut
-cut_end o name who number size seen last front rest error.NetFault h cut = absurd h
-cut_end o name who number size seen last front rest (error.BadInput line) h cut = absurd h
-cut_end o name who number size seen last front rest error.TooMuch h cut = absurd h
-cut_end o name who number size seen last front rest (error.Refused reply) h cut = absurd h
-cut_end o name who number size seen last front rest (error.Dropped at) h cut = absurd h
-cut_end o name who number size seen last front rest (error.BadPeer side line what) h cut = absurd h
-cut_end o name who number size seen last front rest (error.LongRequest bytes) h cut = absurd h
-cut_end o name who number size seen last front rest error.Memory h cut = inr cut
+cut_end : (o : Origin) (name : List ℕ) (who number size : ℕ) (seen : List PlacedAct) (last : List (List ℕ)) (front : List ℕ) (rest remaining : Option (List ℕ)) (e : PerformError)
+    → IsCommandFault e → CutLine o name who seen last front → CommandsEnd o number size name who seen last front rest remaining (Err e)
+cut_end o name who number size seen last front rest remaining error.ReadFault h cut = absurd h
+cut_end o name who number size seen last front rest remaining error.WriteFault h cut = cut
+cut_end o name who number size seen last front rest remaining error.NetFault h cut = absurd h
+cut_end o name who number size seen last front rest remaining (error.BadInput line) h cut = absurd h
+cut_end o name who number size seen last front rest remaining error.TooMuch h cut = absurd h
+cut_end o name who number size seen last front rest remaining (error.Refused reply) h cut = absurd h
+cut_end o name who number size seen last front rest remaining (error.Dropped at) h cut = absurd h
+cut_end o name who number size seen last front rest remaining (error.BadPeer side line what) h cut = absurd h
+cut_end o name who number size seen last front rest remaining (error.LongRequest bytes) h cut = absurd h
+cut_end o name who number size seen last front rest remaining error.Memory h cut = inr cut
 
 -- how the commands end with a line
-ends_with : (o : Origin) (name : List ℕ) (who number size : ℕ) (u : SeatValue PlacedAct Origin) (c : Command) (line : List ℕ) (rest : Option (List ℕ)) (k : SeatMemory) (now next : Option (List ℕ)) (n : ℕ)
+ends_with : (o : Origin) (name : List ℕ) (who number size : ℕ) (u : SeatValue PlacedAct Origin) (c : Command) (line : List ℕ) (rest remaining : Option (List ℕ)) (k : SeatMemory) (now next : Option (List ℕ)) (n : ℕ)
     (r : Result Flow PerformError) → command_of_line line ≡ Some c → IsEnd r → DidCommand o n name who k c now next u r
-    → (at : SeatMemory) × SeesMore k at × Remembers at u × ((front : List ℕ) × (next ≡ at_end now front) × CommandsEnd o number size name who u.seen (line ∷ []) front rest r)
-ends_with o name who number size u c line rest k now next n (Ok flow.On) read end did = absurd end
-ends_with o name who number size u c line rest k now next n (Ok flow.Ended) read end did =
+    → (at : SeatMemory) × SeesMore k at × Remembers at u × ((front : List ℕ) × (next ≡ at_end now front) × CommandsEnd o number size name who u.seen (line ∷ []) front rest remaining r)
+ends_with o name who number size u c line rest remaining k now next n (Ok flow.On) read end did = absurd end
+ends_with o name who number size u c line rest remaining k now next n (Ok flow.Ended) read end did =
     (did.0, did.1, did.2, ([], did.3 ∙ nothing_written now, (refl, inr (line, refl, read ∙ ap Some did.4))))
-ends_with o name who number size u c line rest k now next n (Ok flow.Closed) read end did = (
+ends_with o name who number size u c line rest remaining k now next n (Ok flow.Closed) read end did = (
   did.0,
   did.1,
   did.2,
@@ -402,27 +402,27 @@ ends_with o name who number size u c line rest k now next n (Ok flow.Closed) rea
     (refl, (line, c, refl, read, subst (λ (rows : List PlacedAct). FindsClosed (machine_at o rows) c) did.2.seen did.4)),
   ),
 )
-ends_with o name who number size u c line rest k now next n (Err e) read end did =
+ends_with o name who number size u c line rest remaining k now next n (Err e) read end did =
     let f = did.3 in
     let cut : CutLine o name who u.seen (line ∷ []) f.0 =
     (line, c, refl, read, subst (λ (rows : List PlacedAct). Begins f.0 (command_output name who (machine_at o rows) c)) did.2.seen f.1) in
-    (did.0, did.1, did.2, (f.0, f.2, cut_end o name who number size u.seen (line ∷ []) f.0 rest e did.4 cut))
+    (did.0, did.1, did.2, (f.0, f.2, cut_end o name who number size u.seen (line ∷ []) f.0 rest remaining e did.4 cut))
 
-ends_without : (o : Origin) (name : List ℕ) (who number size : ℕ) (seen : List PlacedAct) (last : List (List ℕ)) (rest : Option (List ℕ)) (r : Result Flow PerformError)
-    → NoCommand number size last rest r → CommandsEnd o number size name who seen last [] rest r
-ends_without o name who number size seen last rest (Ok flow.On) h = absurd h
-ends_without o name who number size seen last rest (Ok flow.Ended) h = (refl, inl h)
-ends_without o name who number size seen last rest (Ok flow.Closed) h = absurd h
-ends_without o name who number size seen last rest (Err error.ReadFault) h = (refl, h)
-ends_without o name who number size seen last rest (Err error.WriteFault) h = absurd h
-ends_without o name who number size seen last rest (Err error.NetFault) h = absurd h
-ends_without o name who number size seen last rest (Err (error.BadInput line)) h = (refl, h.0, h.1)
-ends_without o name who number size seen last rest (Err error.TooMuch) h = (refl, h)
-ends_without o name who number size seen last rest (Err (error.Refused reply)) h = absurd h
-ends_without o name who number size seen last rest (Err (error.Dropped at)) h = absurd h
-ends_without o name who number size seen last rest (Err (error.BadPeer side line what)) h = absurd h
-ends_without o name who number size seen last rest (Err (error.LongRequest bytes)) h = absurd h
-ends_without o name who number size seen last rest (Err error.Memory) h = inl (refl, h)
+ends_without : (o : Origin) (name : List ℕ) (who number size : ℕ) (seen : List PlacedAct) (last : List (List ℕ)) (rest remaining : Option (List ℕ)) (r : Result Flow PerformError)
+    → NoCommand number size last rest remaining r → CommandsEnd o number size name who seen last [] rest remaining r
+ends_without o name who number size seen last rest remaining (Ok flow.On) h = absurd h
+ends_without o name who number size seen last rest remaining (Ok flow.Ended) h = (refl, inl h)
+ends_without o name who number size seen last rest remaining (Ok flow.Closed) h = absurd h
+ends_without o name who number size seen last rest remaining (Err error.ReadFault) h = (refl, h)
+ends_without o name who number size seen last rest remaining (Err error.WriteFault) h = absurd h
+ends_without o name who number size seen last rest remaining (Err error.NetFault) h = absurd h
+ends_without o name who number size seen last rest remaining (Err (error.BadInput line)) h = (refl, h.0, h.1)
+ends_without o name who number size seen last rest remaining (Err error.TooMuch) h = (refl, h)
+ends_without o name who number size seen last rest remaining (Err (error.Refused reply)) h = absurd h
+ends_without o name who number size seen last rest remaining (Err (error.Dropped at)) h = absurd h
+ends_without o name who number size seen last rest remaining (Err (error.BadPeer side line what)) h = absurd h
+ends_without o name who number size seen last rest remaining (Err (error.LongRequest bytes)) h = absurd h
+ends_without o name who number size seen last rest remaining (Err error.Memory) h = inl (refl, h)
 
 not_on : (r : Result Flow PerformError) → r ≡ Ok flow.On → IsEnd r → ⊥
 not_on r is end = subst IsEnd is end
@@ -432,7 +432,7 @@ pub run_ended : (o : Origin) (name : List ℕ) (who : ℕ) (told mid left remain
     → (h : RunSoFar o name who told mid before now s t number size) → IsEnd r → IsHeldBack left remaining
     → DidLine o t.number number name who h.k mid left remaining size total now next u r → RanCommands o name who r told remaining before next s u
 run_ended o name who told mid left remaining before now next s t u number size total r h end held (inl did) =
-    let e = ends_with o name who number size u did.c did.line left h.k now next t.number r did.means end did.did in
+    let e = ends_with o name who number size u did.c did.line left remaining h.k now next t.number r did.means end did.did in
     record {
       k = e.0;
       remembers = e.2;
@@ -450,7 +450,7 @@ run_ended o name who told mid left remaining before now next s t u number size t
       later = later_on h.done h.k e.0 h.later e.1;
       front = e.3.0;
       written = written_more before now next h.printed e.3.0 h.written e.3.1;
-      ends = subst (λ (n : ℕ × ℕ). CommandsEnd o n.0 n.1 name who u.seen (did.line ∷ []) e.3.0 left r) (λ i. (h.counted i, h.sized i)) e.3.2;
+      ends = subst (λ (n : ℕ × ℕ). CommandsEnd o n.0 n.1 name who u.seen (did.line ∷ []) e.3.0 left remaining r) (λ i. (h.counted i, h.sized i)) e.3.2;
     }
 run_ended o name who told mid left remaining before now next s t u number size total r h end held (inr (inl blank)) = absurd (not_on r blank.goes end)
 run_ended o name who told mid left remaining before now next s t u number size total r h end held (inr (inr none)) = record {
@@ -470,6 +470,6 @@ run_ended o name who told mid left remaining before now next s t u number size t
   later = h.later;
   front = [];
   written = none.written ∙ h.written ∙ ap (at_end before) (sym (append-nil h.printed));
-  ends = subst (λ (n : ℕ × ℕ). CommandsEnd o n.0 n.1 name who u.seen none.last [] none.rest r) (λ i. (h.counted i, h.sized i))
-      (ends_without o name who number size u.seen none.last none.rest r none.none);
+  ends = subst (λ (n : ℕ × ℕ). CommandsEnd o n.0 n.1 name who u.seen none.last [] none.rest remaining r) (λ i. (h.counted i, h.sized i))
+      (ends_without o name who number size u.seen none.last none.rest remaining r none.none);
 }

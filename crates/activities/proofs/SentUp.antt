@@ -22,7 +22,7 @@ use Rattle.activities.specs.declared.up.Placing.{Placing}
 use Rattle.activities.specs.declared.errors.PerformError.{PerformError}
 use Rattle.activities.specs.declared.errors.PerformError.TheVariants as error
 use Rattle.activities.specs.Memory.{PlacedAct, SeatMemory, seen_in, own_in, by_others, own_act, placed_row, SeesMore, Remembers, ActsAt, Recalls}
-use Rattle.activities.specs.Up.{call_line, call_lines, next_pair, sent_by, sent_in, IsNextAct, TellsPlaced, WroteCall, ReadsReply, SentCall, UpEnds, SentUp}
+use Rattle.activities.specs.Up.{call_line, call_lines, next_pair, sent_by, sent_in, IsNextAct, FitsRequest, TellsPlaced, WroteCall, ReadsReply, SentCall, UpEnds, SentUp}
 use Rattle.activities.proofs.Remembers.{recalls, remembers_later, all-append, seen_in-append}
 use Rattle.activities.proofs.GaveLines.{gave_none, gave_more}
 
@@ -48,11 +48,11 @@ call_lines-more (x ∷ calls) c = ap (λ rest. call_line x ++ rest) (call_lines-
 
 -- the call's line was written, and then its reply was read
 pub call_sent : (number : ℕ) (pair : ℕ × Call) (told mid after remaining before wrote now : Option (List ℕ)) (r : Result Placing PerformError) → mid ≡ told
-    → wrote ≡ at_end before (call_line pair) → now ≡ wrote → ReadsReply number mid after remaining r → SentCall number pair told after remaining before now r
+    → WroteCall pair before wrote (Ok tt) → now ≡ wrote → ReadsReply number mid after remaining r → SentCall number pair told after remaining before now r
 call_sent number pair told mid after remaining before wrote now (Ok placing) same line kept read =
-    (read.0, subst (λ (t : Option (List ℕ)). GaveLines t (read.0 ∷ []) after) same read.1, read.2, kept ∙ line)
+    (read.0, subst (λ (t : Option (List ℕ)). GaveLines t (read.0 ∷ []) after) same read.1, read.2, kept ∙ line.0, line.1)
 call_sent number pair told mid after remaining before wrote now (Err error) same line kept read =
-    (call_line pair, read.0, read.1, subst (λ (t : Option (List ℕ)). GaveLines t read.0 read.1) same read.2, read.3, kept ∙ line, inr (refl, read.4))
+    (call_line pair, read.0, read.1, subst (λ (t : Option (List ℕ)). GaveLines t read.0 read.1) same read.2, read.3, kept ∙ line.0, inr (refl, read.4, line.1))
 
 -- the call's line wasn't written whole
 pub call_unwritten : (number : ℕ) (pair : ℕ × Call) (told after remaining before now : Option (List ℕ)) (error : PerformError) → IsHeldBack told remaining
@@ -117,6 +117,7 @@ pub record UpSoFar (o : Origin) (told left before now : Option (List ℕ)) (s t 
   pub nexts : (own : List PlacedAct) × (t.own ≡ s.own ++ own) × AllOf IsNextAct own
   pub calls : List (ℕ × Call)
   pub sent : sent_in (machine_at o []) k ≡ calls
+  pub fit : AllOf FitsRequest calls
   pub written : now ≡ at_end before (call_lines calls)
   pub replies : List (List ℕ)
   pub gave : GaveLines told replies left
@@ -136,6 +137,7 @@ up_none o told before s seen own = record {
   nexts = ([], sym (append-nil s.own), tt);
   calls = [];
   sent = refl;
+  fit = tt;
   written = nothing_written before;
   replies = [];
   gave = gave_none told;
@@ -182,6 +184,7 @@ up_sent o told mid left remaining before now later s t u number more num c placi
       nexts = n.nexts;
       calls = h.calls ++ (num, c) ∷ [];
       sent = n.sent;
+      fit = all-append FitsRequest h.calls ((num, c) ∷ []) h.fit (sent.4, tt);
       written = written_more before now later (call_lines h.calls) (call_line (num, c)) h.written sent.3 ∙ ap (at_end before) (sym (call_lines-more h.calls (num, c)));
       replies = h.replies ++ sent.0 ∷ [];
       gave = gave_more told mid left h.replies (sent.0 ∷ []) h.gave sent.1;
@@ -201,6 +204,7 @@ up_looked o told left before now s t u number h further own same =
       nexts = (h.nexts.0, own ∙ h.nexts.1, h.nexts.2);
       calls = h.calls;
       sent = sent_later (machine_at o []) h.k r.0 r.1 ∙ h.sent;
+      fit = h.fit;
       written = h.written;
       replies = h.replies;
       gave = h.gave;
@@ -220,6 +224,7 @@ up_waits o told left before now s t u number h acts same =
       nexts = n.nexts;
       calls = h.calls;
       sent = n.sent ∙ append-nil h.calls;
+      fit = h.fit;
       written = h.written;
       replies = h.replies;
       gave = h.gave;
@@ -241,6 +246,7 @@ up_failed o told mid left remaining before now later s t u number num c error h 
       calls = h.calls;
       lost = (num, c) ∷ [];
       sent = n.sent;
+      fit = h.fit;
       front = sent.0;
       written = written_more before now later (call_lines h.calls) sent.0 h.written sent.5;
       replies = h.replies;
@@ -266,6 +272,7 @@ up_done o told left remaining before now s t u number h acts same held =
       calls = h.calls;
       lost = [];
       sent = n.sent;
+      fit = h.fit;
       front = [];
       written = h.written ∙ ap (at_end before) (sym (append-nil (call_lines h.calls)));
       replies = h.replies;
@@ -281,8 +288,8 @@ up_done o told left remaining before now s t u number h acts same held =
 -- memory was wanting before a call went out
 pub up_starved : (o : Origin) (told left remaining before now : Option (List ℕ)) (s t u : SeatValue PlacedAct Origin) (number : ℕ)
     → UpSoFar o told left before now s t number → Begins t.seen u.seen → u.own ≡ t.own → u.number ≡ t.number → IsHeldBack left remaining
-    → SentUp o (Some error.Memory) told remaining before now s u
-up_starved o told left remaining before now s t u number h further own same held =
+    → accepts (machine_at o u.seen) act.Next ≡ true → SentUp o (Some error.Memory) told remaining before now s u
+up_starved o told left remaining before now s t u number h further own same held wanting =
     let r = remembers_later h.k t u h.remembers further own same in
     record {
       k = r.0;
@@ -291,6 +298,7 @@ up_starved o told left remaining before now s t u number h further own same held
       calls = h.calls;
       lost = [];
       sent = sent_later (machine_at o []) h.k r.0 r.1 ∙ h.sent ∙ sym (append-nil h.calls);
+      fit = h.fit;
       front = [];
       written = h.written ∙ ap (at_end before) (sym (append-nil (call_lines h.calls)));
       replies = h.replies;
@@ -300,7 +308,7 @@ up_starved o told left remaining before now s t u number h further own same held
       held = held;
       placed = h.placed;
       even = h.even;
-      ends = inl (refl, refl, refl, refl);
+      ends = inl (refl, refl, refl, refl, wanting);
     }
 
 -- ---- the halt
@@ -328,6 +336,7 @@ sent_kept o end told left before now left' now' s t h same_left same_now = recor
   calls = h.calls;
   lost = h.lost;
   sent = h.sent;
+  fit = h.fit;
   front = h.front;
   written = same_now ∙ h.written;
   replies = h.replies;
@@ -337,7 +346,7 @@ sent_kept o end told left before now left' now' s t h same_left same_now = recor
   held = subst (λ (r : Option (List ℕ)). IsHeldBack h.rest r) (sym same_left) h.held;
   placed = h.placed;
   even = h.even;
-  ends = h.ends;
+  ends = subst (λ (r : Option (List ℕ)). UpEnds o t.seen (number_behind 2 h.replies) h.lost h.front h.last h.rest r end) (sym same_left) h.ends;
 }
 
 -- ---- the finish

@@ -11,12 +11,16 @@ use Rattle.wire_lines.specs.declared.reader.State.TheVariants as state
 use Rattle.wire_lines.proofs.IsNextLine.{text_told, end_told, long_read, ends_state}
 use Rattle.activities.specs.Lines.{coming, MayRead, GaveLines, IsHeldBack, TellsLine, CountsAnswer}
 
+-- what is to come are the bytes that are held and those that were taken, and then what remains
+held_first : (old : Reader) (taken : List ℕ) (remaining0 remaining1 : Option (List ℕ)) → remaining0 ≡ in_front taken remaining1
+    → coming old remaining0 ≡ in_front (held_bytes old ++ taken) remaining1
+held_first old taken remaining0 None given = ap (in_front (held_bytes old)) given
+held_first old taken remaining0 (Some rest) given = ap (in_front (held_bytes old)) given ∙ ap Some (sym (append_assoc (held_bytes old) taken rest))
+
 -- what was taken of the source is held, or was given
 held_back : (old : Reader) (taken : List ℕ) (remaining0 remaining1 : Option (List ℕ)) → remaining0 ≡ in_front taken remaining1
     → IsHeldBack (coming old remaining0) remaining1
-held_back old taken remaining0 None given = (held_bytes old ++ taken, ap (in_front (held_bytes old)) given)
-held_back old taken remaining0 (Some rest) given =
-    (held_bytes old ++ taken, ap (in_front (held_bytes old)) given ∙ ap Some (sym (append_assoc (held_bytes old) taken rest)))
+held_back old taken remaining0 remaining1 given = (held_bytes old ++ taken, held_first old taken remaining0 remaining1 given)
 
 gave_line : (text : List ℕ) (old new : Reader) (taken : List ℕ) (remaining0 remaining1 : Option (List ℕ)) → remaining0 ≡ in_front taken remaining1 → HasNoFeed text
     → EndsLine text (held_bytes old ++ taken) new remaining1 → GaveLines (coming old remaining0) (text ∷ []) (coming new remaining1)
@@ -41,11 +45,12 @@ long old new (Some bytes) remaining1 may r = long_read (held_bytes old ++ bytes)
 pub tells : (l : Line) (old new : Reader) (remaining0 remaining1 : Option (List ℕ)) → MayRead old remaining0 → ReadsLine l old new remaining0 remaining1
     → TellsLine l old.limit (coming old remaining0) new remaining1
 tells (line.Text text) old new remaining0 remaining1 may r =
-    (gave_line text.items old new r.taken remaining0 remaining1 r.given r.gives.1 r.gives.3, ends_state text.items (held_bytes old ++ r.taken) new remaining1 r.gives.3)
+    (gave_line text.items old new r.taken remaining0 remaining1 r.given r.gives.1 r.gives.3, ends_state text.items (held_bytes old ++ r.taken) new remaining1 r.gives.3, r.gives.2)
 tells line.End old new remaining0 remaining1 may r = (held_back old r.taken remaining0 remaining1 r.given, ended old new remaining0 remaining1 may r)
 tells line.Long old new remaining0 remaining1 may r = (held_back old r.taken remaining0 remaining1 r.given, long old new remaining0 remaining1 may r)
 tells line.Fault old new remaining0 remaining1 may r = held_back old r.taken remaining0 remaining1 r.given
-tells line.Memory old new remaining0 remaining1 may r = held_back old r.taken remaining0 remaining1 r.given
+tells line.Memory old new remaining0 remaining1 may r =
+    (held_bytes old ++ r.taken, held_first old r.taken remaining0 remaining1 r.given, λ long. r.gives.3 (subst (IsLong old.limit) (sym r.gives.2) long))
 
 fault_counted : (old : Reader) (remaining : Option (List ℕ)) (before now : ℕ) → MayRead old remaining → CountsLine line.Fault old before now → Counted before now
 fault_counted old remaining before now may (inr (going, counted)) = counted

@@ -1,5 +1,5 @@
 -- What the down line took.
-use Rattle.std.proofs.Common.{◌≡◌, ℕ, Bool, true, false, List, [], ◌∷◌, ◌++◌, Option, None, Some, Result, Ok, Err, refl, sym, ap, ◌∙◌, subst, append_assoc, append-nil, length-append, inl, inr, ◌+◌, ◌-◌, ◌^◌, min, arith}
+use Rattle.std.proofs.Common.{◌≡◌, ℕ, Bool, true, false, List, [], ◌∷◌, ◌++◌, length, Option, None, Some, Result, Ok, Err, refl, sym, ap, ◌∙◌, subst, append_assoc, append-nil, length-append, inl, inr, ◌≤◌, ◌+◌, ◌-◌, ◌^◌, min, arith}
 use Rattle.std.specs.Prelude.{is_none}
 use Rattle.seat_lock.specs.Lists.{Begins}
 use Rattle.seat_lock.specs.Values.{SeatValue}
@@ -13,14 +13,16 @@ use Rattle.stage_state.specs.declared.reply.TakeRefusal.{TakeRefusal}
 use Rattle.stage_state.specs.declared.reply.TakeRefusal.TheVariants as refusal
 use Rattle.stage_state.specs.declared.played.Origin.{Origin}
 use Rattle.stage_state.specs.Origins.{machine_at}
-use Rattle.stage_state.specs.Replies.{take_refusal, unless}
+use Rattle.stage_state.specs.Machine.{Machine}
+use Rattle.stage_state.specs.Replies.{take_refusal, unless, accepts}
 use Rattle.block_queue.specs.declared.item.Item.{Item}
 use Rattle.wire_json.specs.Entries.{entry_of_line}
 use Rattle.activities.specs.Lines.{GaveLines, IsHeldBack, number_behind}
 use Rattle.activities.specs.declared.down.TakenEntry.{TakenEntry}
 use Rattle.activities.specs.declared.errors.PerformError.{PerformError}
+use Rattle.activities.specs.declared.errors.PerformError.TheVariants as error
 use Rattle.activities.specs.Driving.{block_items}
-use Rattle.activities.specs.Down.{entry_takes, and_block, blocks_of, TookLines, TookEntry, TookLine, TookDown, HasLeftAt, IsUntaken, DownEnds, refusal_error, end_of_leave}
+use Rattle.activities.specs.Down.{entry_takes, and_block, blocks_of, TookLines, TookEntry, TookLine, TookDown, HasLeftAt, IsUntaken, MayWant, DownEnds, longest_entry, refusal_error, end_of_leave}
 use Rattle.activities.specs.Counts.{CountsLink}
 use Rattle.activities.proofs.FedSome.{block_items-append}
 use Rattle.activities.proofs.GaveLines.{gave_none, gave_more, mean_more, begins_same}
@@ -62,11 +64,28 @@ refusal_is None refusal told e = absurd (cc)
 refusal_is (Some r) refusal told e = cc
 
 untaken : (o : Origin) (seen : List PlacedAct) (number : ℕ) (e : Entry) (refusal : TakeRefusal) → take_refusal (machine_at o seen) e ≡ Some refusal
-    → (line : List ℕ) (rest : Option (List ℕ)) → entry_of_line line ≡ Some e → IsUntaken o seen number (refusal_error number refusal) (line ∷ []) rest
-untaken o seen number e refusal.Gone is line rest read = omega arith
-untaken o seen number e (refusal.BadPlace want got) is line rest read = (refl, (e, read, is))
-untaken o seen number e (refusal.NotSent at) is line rest read = (refl, (e, read, is))
-untaken o seen number e (refusal.BadBase want got) is line rest read = (refl, (e, read, is))
+    → (line : List ℕ) (rest remaining : Option (List ℕ)) → entry_of_line line ≡ Some e → length line ≤ longest_entry
+    → IsUntaken o seen number (refusal_error number refusal) (line ∷ []) rest remaining
+untaken o seen number e refusal.Gone is line rest remaining read fits = inr (line, refl, fits)
+untaken o seen number e (refusal.BadPlace want got) is line rest remaining read fits = (refl, (e, read, is))
+untaken o seen number e (refusal.NotSent at) is line rest remaining read fits = (refl, (e, read, is))
+untaken o seen number e (refusal.BadBase want got) is line rest remaining read fits = (refl, (e, read, is))
+
+told_want : (m : Machine) (number : ℕ) (e : Entry) (refusal : TakeRefusal) → take_refusal m e ≡ Some refusal → refusal_error number refusal ≡ error.Memory → MayWant m e
+told_want m number e refusal.Gone is told = inr is
+told_want m number e (refusal.BadPlace want got) is told = absurd (cc)
+told_want m number e (refusal.NotSent at) is told = absurd (cc)
+told_want m number e (refusal.BadBase want got) is told = absurd (cc)
+
+placed_none : {R : Type 0} (r : Option R) → is_none r ≡ true → r ≡ None
+placed_none None is = refl
+placed_none (Some r) is = absurd (cc)
+
+-- memory was wanting for an entry that would be taken
+pub entry_wants : (o : Origin) (e : Entry) (number : ℕ) (s t : SeatValue PlacedAct Origin) → t.own ≡ s.own → accepts (machine_at o t.seen) (act.Take e) ≡ true
+    → TookEntry o number e s t (Err error.Memory)
+entry_wants o e number s t own placed =
+    (own, (λ line rest remaining read fits. inr (line, refl, fits)), λ told. inl (placed_none (take_refusal (machine_at o t.seen) e) placed))
 
 -- what the reply to an entry that was refused says
 pub refuses : (o : Origin) (e : Entry) (number : ℕ) (refusal : TakeRefusal) (s t : SeatValue PlacedAct Origin) → ActsAt o (act.Take e) s (reply.Take (Err refusal)) t
@@ -80,6 +99,7 @@ refuses o e number refusal s t acts =
     let seen : t.seen ≡ log = acts.3 ∙ ap (λ b. log ++ placed_row b s.number (act.Take e)) no ∙ append-nil log in (
       acts.4 ∙ ap (λ b. s.own ++ placed_row b s.number (act.Take e)) no ∙ append-nil s.own,
       untaken o t.seen number e refusal (subst (λ (rows : List PlacedAct). take_refusal (machine_at o rows) e ≡ Some refusal) (sym seen) is),
+      told_want (machine_at o t.seen) number e refusal (subst (λ (rows : List PlacedAct). take_refusal (machine_at o rows) e ≡ Some refusal) (sym seen) is),
     )
 
 -- a refused entry counts no fault
@@ -163,13 +183,13 @@ down_wrong o told mid left remaining s t u before now number error h line = reco
   lines = record { mean = h.lines.mean; own = line.4 ∙ h.lines.own; pushed = h.lines.pushed };
   seen = u.seen;
   earlier = begins_same u.seen;
-  ends = inr (subst (λ n. IsUntaken o u.seen n error line.0 line.1) h.counted line.5);
+  ends = inr (subst (λ n. IsUntaken o u.seen n error line.0 line.1 remaining) h.counted line.5);
 }
 
-ends_left : (o : Origin) (seen : List PlacedAct) (given : List (List ℕ)) (entries : List Entry) (rest : Option (List ℕ)) (at : ℕ) (b : Bool) → HasLeftAt o entries at → (machine_at o seen).gone ≡ true
-    → (machine_at o seen).leave_sent ≡ b → DownEnds o seen given entries [] rest (end_of_leave at b)
-ends_left o seen given entries rest at true last gone sent = (refl, (at, last), gone, sent)
-ends_left o seen given entries rest at false last gone sent = inl (refl, last, gone, sent)
+ends_left : (o : Origin) (seen : List PlacedAct) (given : List (List ℕ)) (entries : List Entry) (rest remaining : Option (List ℕ)) (at : ℕ) (b : Bool) → HasLeftAt o entries at → (machine_at o seen).gone ≡ true
+    → (machine_at o seen).leave_sent ≡ b → DownEnds o seen given entries [] rest remaining (end_of_leave at b)
+ends_left o seen given entries rest remaining at true last gone sent = (refl, (at, last), gone, sent)
+ends_left o seen given entries rest remaining at false last gone sent = inl (refl, last, gone, sent)
 
 -- the own leave was taken
 pub down_left : (o : Origin) (told mid left remaining : Option (List ℕ)) (s t u v : SeatValue PlacedAct Origin) (before now later : List Item) (number : ℕ) (taken : TakenEntry) (end : Option PerformError)
@@ -190,6 +210,6 @@ down_left o told mid left remaining s t u v before now later number taken end h 
       lines = record { mean = more.mean; own = own ∙ more.own; pushed = more.pushed };
       seen = v.seen;
       earlier = begins_same v.seen;
-      ends = subst (λ e. DownEnds o v.seen given (h.entries ++ line.1 ∷ []) [] left e) (sym ends)
-          (ends_left o v.seen given (h.entries ++ line.1 ∷ []) left taken.at (machine_at o v.seen).leave_sent at (gone_later o u.seen v.seen further (line.4.4 gone)) refl);
+      ends = subst (λ e. DownEnds o v.seen given (h.entries ++ line.1 ∷ []) [] left remaining e) (sym ends)
+          (ends_left o v.seen given (h.entries ++ line.1 ∷ []) left remaining taken.at (machine_at o v.seen).leave_sent at (gone_later o u.seen v.seen further (line.4.4 gone)) refl);
     }

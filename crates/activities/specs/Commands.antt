@@ -25,7 +25,7 @@ use Rattle.activities.specs.declared.commands.Flow.{Flow}
 use Rattle.activities.specs.declared.commands.Flow.TheVariants as flow
 use Rattle.activities.specs.declared.errors.PerformError.{PerformError}
 use Rattle.activities.specs.declared.errors.PerformError.TheVariants as error
-use Rattle.activities.specs.Lines.{GaveLines, IsHeldBack, AreReadAs, number_behind}
+use Rattle.activities.specs.Lines.{GaveLines, IsHeldBack, IsShortHeld, AreReadAs, number_behind}
 use Rattle.activities.specs.Memory.{PlacedAct, SeatMemory, seen_in, own_act, placed_row, SeesMore, Remembers}
 
 -- the longest line of commands, in bytes
@@ -164,11 +164,11 @@ Answered (Err refusal.Closed) before now r = (r ≡ Ok flow.Closed) × (now ≡ 
 Answered (Err (refusal.BadBase want got)) before now r = WroteLine (base_line want got) before now r
 Answered (Err (refusal.Blank place)) before now r = WroteLine (blank_line place) before now r
 
--- what is asked meets the machine at some acts, which begin with those seen
+-- what is asked meets the machine at some acts, which begin with those seen; want of memory comes only where it would be placed
 abbrev pub AsksStage : Origin → Act → SeatValue PlacedAct Origin → SeatValue PlacedAct Origin → Result (Result (Unit {0}) AskRefusal) PerformError → Type 0
 AsksStage o a s t (Ok answer) = (log : List PlacedAct) × Begins s.seen log × (answer ≡ ask_answer (machine_at o log) a)
     × (t.seen ≡ log ++ placed_row (accepts (machine_at o log) a) s.number a) × (t.own ≡ s.own ++ placed_row (accepts (machine_at o log) a) s.number a)
-AsksStage o a s t (Err e) = (e ≡ error.Memory) × (t.own ≡ s.own)
+AsksStage o a s t (Err e) = (e ≡ error.Memory) × (t.own ≡ s.own) × (accepts (machine_at o t.seen) a ≡ true)
 
 -- what becomes of a question to the stage
 abbrev pub FollowsAnswer : Result (Result (Unit {0}) AskRefusal) PerformError → Option (List ℕ) → Option (List ℕ) → Result Flow PerformError → Type 0
@@ -196,21 +196,27 @@ IsBadLine last rest = ((last ≡ []) × IfSome rest (IsLong longest_command))
 abbrev pub PassesLimit : ℕ → List (List ℕ) → Type 0
 PassesLimit size last = (line : List ℕ) × (last ≡ line ∷ []) × (most_commands < size + (length line + 1))
 
+-- memory was wanting: before a line was read, where none over the limit is held, or for a line that is within the limit and isn't blank, and with which the lines don't
+-- pass the limit of all lines; `rest` is what was to come behind it, and `remaining` what remains of the source
+abbrev pub WantsMemory : ℕ → List (List ℕ) → Option (List ℕ) → Option (List ℕ) → Type 0
+WantsMemory size last rest remaining = ((last ≡ []) × IsShortHeld longest_command rest remaining)
+    ⊎ ((line : List ℕ) × (last ≡ line ∷ []) × (length line ≤ longest_command) × (size + (length line + 1) ≤ most_commands) × (is_blank_line line ≡ false))
+
 -- no command was done, behind lines of so many bytes: the end was read, or why it wasn't
-abbrev pub NoCommand : ℕ → ℕ → List (List ℕ) → Option (List ℕ) → Result Flow PerformError → Type 0
-NoCommand number size last rest (Ok flow.On) = ⊥
-NoCommand number size last rest (Ok flow.Ended) = (last ≡ []) × IfSome rest (λ bytes. bytes ≡ [])
-NoCommand number size last rest (Ok flow.Closed) = ⊥
-NoCommand number size last rest (Err error.ReadFault) = last ≡ []
-NoCommand number size last rest (Err error.WriteFault) = ⊥
-NoCommand number size last rest (Err error.NetFault) = ⊥
-NoCommand number size last rest (Err (error.BadInput line)) = (line ≡ number) × IsBadLine last rest
-NoCommand number size last rest (Err error.TooMuch) = PassesLimit size last
-NoCommand number size last rest (Err (error.Refused reply)) = ⊥
-NoCommand number size last rest (Err (error.Dropped at)) = ⊥
-NoCommand number size last rest (Err (error.BadPeer side line what)) = ⊥
-NoCommand number size last rest (Err (error.LongRequest bytes)) = ⊥
-NoCommand number size last rest (Err error.Memory) = length last ≤ 1
+abbrev pub NoCommand : ℕ → ℕ → List (List ℕ) → Option (List ℕ) → Option (List ℕ) → Result Flow PerformError → Type 0
+NoCommand number size last rest remaining (Ok flow.On) = ⊥
+NoCommand number size last rest remaining (Ok flow.Ended) = (last ≡ []) × IfSome rest (λ bytes. bytes ≡ [])
+NoCommand number size last rest remaining (Ok flow.Closed) = ⊥
+NoCommand number size last rest remaining (Err error.ReadFault) = last ≡ []
+NoCommand number size last rest remaining (Err error.WriteFault) = ⊥
+NoCommand number size last rest remaining (Err error.NetFault) = ⊥
+NoCommand number size last rest remaining (Err (error.BadInput line)) = (line ≡ number) × IsBadLine last rest
+NoCommand number size last rest remaining (Err error.TooMuch) = PassesLimit size last
+NoCommand number size last rest remaining (Err (error.Refused reply)) = ⊥
+NoCommand number size last rest remaining (Err (error.Dropped at)) = ⊥
+NoCommand number size last rest remaining (Err (error.BadPeer side line what)) = ⊥
+NoCommand number size last rest remaining (Err (error.LongRequest bytes)) = ⊥
+NoCommand number size last rest remaining (Err error.Memory) = WantsMemory size last rest remaining
 
 -- the line was counted: so many bytes more, within the limit of all lines
 abbrev pub IsCounted : List ℕ → ℕ → ℕ → Type 0
@@ -245,7 +251,7 @@ pub record DidNone (at_line : ℕ) (k : SeatMemory) (told remaining : Option (Li
   pub held : IsHeldBack rest remaining
   pub written : now ≡ before
   pub remembers : Remembers k t
-  pub none : NoCommand at_line size last rest r
+  pub none : NoCommand at_line size last rest remaining r
 
 -- one line of the commands, behind lines of so many bytes
 abbrev pub DidLine : Origin → ℕ → ℕ → List ℕ → ℕ → SeatMemory → Option (List ℕ) → Option (List ℕ) → Option (List ℕ) → ℕ → ℕ → Option (List ℕ) → Option (List ℕ) → SeatValue PlacedAct Origin
@@ -262,22 +268,22 @@ CutLine o name who seen last front =
 
 -- how the commands ended, behind lines of so many bytes: `last` is the line that was read last, where it is none of the commands that were done, and `rest` is what was to
 -- come behind it
-abbrev pub CommandsEnd : Origin → ℕ → ℕ → List ℕ → ℕ → List PlacedAct → List (List ℕ) → List ℕ → Option (List ℕ) → Result Flow PerformError → Type 0
-CommandsEnd o number size name who seen last front rest (Ok flow.On) = ⊥
-CommandsEnd o number size name who seen last front rest (Ok flow.Ended) = (front ≡ [])
+abbrev pub CommandsEnd : Origin → ℕ → ℕ → List ℕ → ℕ → List PlacedAct → List (List ℕ) → List ℕ → Option (List ℕ) → Option (List ℕ) → Result Flow PerformError → Type 0
+CommandsEnd o number size name who seen last front rest remaining (Ok flow.On) = ⊥
+CommandsEnd o number size name who seen last front rest remaining (Ok flow.Ended) = (front ≡ [])
     × (((last ≡ []) × IfSome rest (λ bytes. bytes ≡ [])) ⊎ ((line : List ℕ) × (last ≡ line ∷ []) × (command_of_line line ≡ Some command.Leave)))
-CommandsEnd o number size name who seen last front rest (Ok flow.Closed) = (front ≡ [])
+CommandsEnd o number size name who seen last front rest remaining (Ok flow.Closed) = (front ≡ [])
     × ((line : List ℕ) × (c : Command) × (last ≡ line ∷ []) × (command_of_line line ≡ Some c) × FindsClosed (machine_at o seen) c)
-CommandsEnd o number size name who seen last front rest (Err error.ReadFault) = (front ≡ []) × (last ≡ [])
-CommandsEnd o number size name who seen last front rest (Err error.WriteFault) = CutLine o name who seen last front
-CommandsEnd o number size name who seen last front rest (Err error.NetFault) = ⊥
-CommandsEnd o number size name who seen last front rest (Err (error.BadInput line)) = (front ≡ []) × (line ≡ number) × IsBadLine last rest
-CommandsEnd o number size name who seen last front rest (Err error.TooMuch) = (front ≡ []) × PassesLimit size last
-CommandsEnd o number size name who seen last front rest (Err (error.Refused reply)) = ⊥
-CommandsEnd o number size name who seen last front rest (Err (error.Dropped at)) = ⊥
-CommandsEnd o number size name who seen last front rest (Err (error.BadPeer side line what)) = ⊥
-CommandsEnd o number size name who seen last front rest (Err (error.LongRequest bytes)) = ⊥
-CommandsEnd o number size name who seen last front rest (Err error.Memory) = ((front ≡ []) × (length last ≤ 1)) ⊎ CutLine o name who seen last front
+CommandsEnd o number size name who seen last front rest remaining (Err error.ReadFault) = (front ≡ []) × (last ≡ [])
+CommandsEnd o number size name who seen last front rest remaining (Err error.WriteFault) = CutLine o name who seen last front
+CommandsEnd o number size name who seen last front rest remaining (Err error.NetFault) = ⊥
+CommandsEnd o number size name who seen last front rest remaining (Err (error.BadInput line)) = (front ≡ []) × (line ≡ number) × IsBadLine last rest
+CommandsEnd o number size name who seen last front rest remaining (Err error.TooMuch) = (front ≡ []) × PassesLimit size last
+CommandsEnd o number size name who seen last front rest remaining (Err (error.Refused reply)) = ⊥
+CommandsEnd o number size name who seen last front rest remaining (Err (error.Dropped at)) = ⊥
+CommandsEnd o number size name who seen last front rest remaining (Err (error.BadPeer side line what)) = ⊥
+CommandsEnd o number size name who seen last front rest remaining (Err (error.LongRequest bytes)) = ⊥
+CommandsEnd o number size name who seen last front rest remaining (Err error.Memory) = ((front ≡ []) × WantsMemory size last rest remaining) ⊎ CutLine o name who seen last front
 
 -- all that the commands did, in order, and how they ended: `given` are the lines that were done, blank ones among them
 pub record RanCommands (o : Origin) (name : List ℕ) (who : ℕ) (end : Result Flow PerformError) (told remaining before now : Option (List ℕ)) (s t : SeatValue PlacedAct Origin) : Type 0 where
@@ -297,4 +303,4 @@ pub record RanCommands (o : Origin) (name : List ℕ) (who : ℕ) (end : Result 
   pub later : SeesMore done k
   pub front : List ℕ
   pub written : now ≡ at_end before (printed ++ front)
-  pub ends : CommandsEnd o (number_behind 1 given) (lines_size given) name who t.seen last front rest end
+  pub ends : CommandsEnd o (number_behind 1 given) (lines_size given) name who t.seen last front rest remaining end

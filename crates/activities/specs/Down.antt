@@ -11,6 +11,7 @@ use Rattle.stage_state.specs.declared.act.Act.TheVariants as act
 use Rattle.stage_state.specs.declared.played.Origin.{Origin}
 use Rattle.stage_state.specs.declared.reply.TakeRefusal.{TakeRefusal}
 use Rattle.stage_state.specs.declared.reply.TakeRefusal.TheVariants as refusal
+use Rattle.stage_state.specs.Machine.{Machine}
 use Rattle.stage_state.specs.Origins.{machine_at}
 use Rattle.stage_state.specs.Replies.{take_refusal}
 use Rattle.block_queue.specs.declared.item.Item.{Item}
@@ -22,7 +23,7 @@ use Rattle.activities.specs.declared.errors.What.TheVariants as what
 use Rattle.activities.specs.declared.errors.PerformError.{PerformError}
 use Rattle.activities.specs.declared.errors.PerformError.TheVariants as error
 use Rattle.activities.specs.Driving.{block_items}
-use Rattle.activities.specs.Lines.{GaveLines, IsHeldBack, AreReadAs, number_behind}
+use Rattle.activities.specs.Lines.{GaveLines, IsHeldBack, WantsAtLine, AreReadAs, number_behind}
 use Rattle.activities.specs.Memory.{PlacedAct}
 
 -- the longest line that a performer reads on the down side, in bytes
@@ -73,31 +74,36 @@ abbrev pub IsWrongEntryOn : Side → Origin → List PlacedAct → What → List
 IsWrongEntryOn side.Up o seen what last rest = ⊥
 IsWrongEntryOn side.Down o seen what last rest = IsWrongEntry o seen what last rest
 
--- why the line of this number was not taken; `last` is that line, where it was read
-abbrev pub IsUntaken : Origin → List PlacedAct → ℕ → PerformError → List (List ℕ) → Option (List ℕ) → Type 0
-IsUntaken o seen number error.ReadFault last rest = ⊥
-IsUntaken o seen number error.WriteFault last rest = ⊥
-IsUntaken o seen number error.NetFault last rest = last ≡ []
-IsUntaken o seen number (error.BadInput line) last rest = ⊥
-IsUntaken o seen number error.TooMuch last rest = ⊥
-IsUntaken o seen number (error.Refused reply) last rest = ⊥
-IsUntaken o seen number (error.Dropped at) last rest = ⊥
-IsUntaken o seen number (error.BadPeer side line what) last rest = (line ≡ number) × IsWrongEntryOn side o seen what last rest
-IsUntaken o seen number (error.LongRequest bytes) last rest = ⊥
-IsUntaken o seen number error.Memory last rest = length last ≤ 1
+-- why the line of this number was not taken; `last` is that line, where it was read, `rest` is what was to come behind it, and `remaining` what remains of the source
+abbrev pub IsUntaken : Origin → List PlacedAct → ℕ → PerformError → List (List ℕ) → Option (List ℕ) → Option (List ℕ) → Type 0
+IsUntaken o seen number error.ReadFault last rest remaining = ⊥
+IsUntaken o seen number error.WriteFault last rest remaining = ⊥
+IsUntaken o seen number error.NetFault last rest remaining = last ≡ []
+IsUntaken o seen number (error.BadInput line) last rest remaining = ⊥
+IsUntaken o seen number error.TooMuch last rest remaining = ⊥
+IsUntaken o seen number (error.Refused reply) last rest remaining = ⊥
+IsUntaken o seen number (error.Dropped at) last rest remaining = ⊥
+IsUntaken o seen number (error.BadPeer side line what) last rest remaining = (line ≡ number) × IsWrongEntryOn side o seen what last rest
+IsUntaken o seen number (error.LongRequest bytes) last rest remaining = ⊥
+IsUntaken o seen number error.Memory last rest remaining = WantsAtLine longest_entry last rest remaining
 
--- an entry that was taken is the seat's last act; one that wasn't says why, as the line of this number
+-- the stage would take the entry; or the performer is gone, which never comes here, and is told as want of memory
+abbrev pub MayWant : Machine → Entry → Type 0
+MayWant m e = (take_refusal m e ≡ None) ⊎ (take_refusal m e ≡ Some refusal.Gone)
+
+-- an entry that was taken is the seat's last act; one that wasn't says why, as the line of this number; want of memory comes only where it would be taken
 abbrev pub TookEntry : Origin → ℕ → Entry → SeatValue PlacedAct Origin → SeatValue PlacedAct Origin → Result TakenEntry PerformError → Type 0
 TookEntry o number e s t (Ok taken) = (t.own ≡ s.own ++ (s.number, act.Take e) ∷ []) × (taken.block ≡ block_told o.joined e) × (taken.at ≡ e.at)
     × (taken.gone ≡ is_leave_of o.own e) × (taken.gone ≡ true → (machine_at o t.seen).gone ≡ true)
-TookEntry o number e s t (Err error) = (t.own ≡ s.own) × ((line : List ℕ) (rest : Option (List ℕ)) → entry_of_line line ≡ Some e → IsUntaken o t.seen number error (line ∷ []) rest)
+TookEntry o number e s t (Err x) = (t.own ≡ s.own) × ((line : List ℕ) (rest remaining : Option (List ℕ)) → entry_of_line line ≡ Some e → length line ≤ longest_entry → IsUntaken o t.seen number x (line ∷ []) rest remaining)
+    × (x ≡ error.Memory → MayWant (machine_at o t.seen) e)
 
 -- one line: its entry was taken, or why not, with at most that line given, some bytes held back, and the rest of the source
 abbrev pub TookLine : Origin → ℕ → Option (List ℕ) → Option (List ℕ) → Option (List ℕ) → SeatValue PlacedAct Origin → SeatValue PlacedAct Origin → Result TakenEntry PerformError → Type 0
 TookLine o number before after remaining s t (Ok taken) =
     (line : List ℕ) × (e : Entry) × GaveLines before (line ∷ []) after × (entry_of_line line ≡ Some e) × TookEntry o number e s t (Ok taken)
 TookLine o number before after remaining s t (Err error) = (last : List (List ℕ)) × (rest : Option (List ℕ)) × GaveLines before last rest × IsHeldBack rest remaining
-    × (t.own ≡ s.own) × IsUntaken o t.seen number error last rest
+    × (t.own ≡ s.own) × IsUntaken o t.seen number error last rest remaining
 
 -- the error that tells a refusal of the line of this number; that the performer is gone never comes here, and is told as want of memory
 abbrev pub refusal_error : ℕ → TakeRefusal → PerformError
@@ -131,10 +137,10 @@ IsDropped o seen entries last (error.LongRequest bytes) = ⊥
 IsDropped o seen entries last error.Memory = ⊥
 
 -- why it stopped, behind these lines and entries, at these acts: with no error the own leave was taken, and had been sent
-abbrev pub DownEnds : Origin → List PlacedAct → List (List ℕ) → List Entry → List (List ℕ) → Option (List ℕ) → Option PerformError → Type 0
-DownEnds o seen given entries last rest None =
+abbrev pub DownEnds : Origin → List PlacedAct → List (List ℕ) → List Entry → List (List ℕ) → Option (List ℕ) → Option (List ℕ) → Option PerformError → Type 0
+DownEnds o seen given entries last rest remaining None =
     (last ≡ []) × ((at : ℕ) × HasLeftAt o entries at) × ((machine_at o seen).gone ≡ true) × ((machine_at o seen).leave_sent ≡ true)
-DownEnds o seen given entries last rest (Some error) = IsDropped o seen entries last error ⊎ IsUntaken o seen (number_behind 1 given) error last rest
+DownEnds o seen given entries last rest remaining (Some error) = IsDropped o seen entries last error ⊎ IsUntaken o seen (number_behind 1 given) error last rest remaining
 
 -- all that the down line did: `given` are the lines whose entries were taken, `last` is the line, if one was read, whose entry wasn't, `rest` is what was to come
 -- behind these, and `seen` are the acts at its end
@@ -148,7 +154,7 @@ pub record TookDown (o : Origin) (end : Option PerformError) (told remaining : O
   pub lines : TookLines o given entries s t before now
   pub seen : List PlacedAct
   pub earlier : Begins seen t.seen
-  pub ends : DownEnds o seen given entries last rest end
+  pub ends : DownEnds o seen given entries last rest remaining end
 
 -- how it ends once the own leave was taken at this position, by whether one had been sent
 abbrev pub end_of_leave : ℕ → Bool → Option PerformError

@@ -1,5 +1,5 @@
 -- What the driver's activity does with the blocks that come through the queue.
-use Rattle.std.specs.Prelude.{◌≡◌, ℕ, ◌+◌, ◌-◌, ◌^◌, ◌<◌, ◌≤◌, Bool, true, false, List, [], ◌∷◌, ◌++◌, Option, Some, IfSome}
+use Rattle.std.specs.Prelude.{◌≡◌, ℕ, ◌+◌, ◌-◌, ◌^◌, ◌<◌, ◌≤◌, Bool, true, false, List, [], ◌∷◌, ◌++◌, length, Option, Some, IfSome}
 use Rattle.seat_lock.specs.Lists.{Begins}
 use Rattle.troop_entry.specs.declared.block.Block.{Block}
 use Rattle.troop_entry.specs.declared.call.Lang.{Lang}
@@ -52,11 +52,13 @@ pub record IsSameDriver (before now : ToldDriver) : Type 0 where
   pub boot : now.boot ≡ before.boot
   pub earlier : IfSome now.earlier (λ n. Some n ≡ before.earlier)
 
--- the first of the blocks were fed to the same driver, and all of them unless memory was wanting: where their places rise they are told, and so many faults at most are noted
+-- the first of the blocks were fed to the same driver, and all of them unless memory was wanting, which left one at least: where their places rise they are told, and so many faults
+-- at most are noted
 pub record FedSome (starved : Bool) (blocks : List Block) (before now : ToldDriver) : Type 0 where
   pub fed : List Block
   pub first : Begins fed blocks
   pub all : starved ≡ false → fed ≡ blocks
+  pub few : starved ≡ true → length fed < length blocks
   pub same : IsSameDriver before now
   pub told : IsRising fed → IsToldOf before [] → IsToldOf now fed
   pub bounded : IsBounded before now

@@ -1,5 +1,5 @@
 -- How an activity ends at the stage.
-use Rattle.std.specs.Prelude.{◌≡◌, ℕ, Bool, ◌∷◌, List, [], ◌++◌, Option, None, Some, Result, Ok, Err}
+use Rattle.std.specs.Prelude.{◌≡◌, ℕ, Bool, true, false, ◌∷◌, List, [], ◌++◌, Option, None, Some, Result, Ok, Err}
 use Rattle.seat_lock.specs.Lists.{Begins}
 use Rattle.seat_lock.specs.Values.{SeatValue}
 use Rattle.block_queue.specs.declared.item.Item.{Item}
@@ -15,10 +15,10 @@ use Rattle.activities.specs.Down.{TookDown}
 use Rattle.activities.specs.Memory.{PlacedAct, SeatMemory, placed_row, Remembers}
 use Rattle.activities.specs.Up.{SentUp, sent_in}
 
--- the stage is halted where there is an error, unless it was halted before
-abbrev pub Halts : Option PerformError → SeatValue PlacedAct Origin → SeatValue PlacedAct Origin → Type 0
-Halts None s t = t.own ≡ s.own
-Halts (Some e) s t = (b : Bool) × (t.own ≡ s.own ++ placed_row b s.number act.Halt)
+-- where there is an error the stage is halted then: by this seat, unless it was halted before
+abbrev pub Halts : Origin → Option PerformError → SeatValue PlacedAct Origin → SeatValue PlacedAct Origin → Type 0
+Halts o None s t = t.own ≡ s.own
+Halts o (Some e) s t = (b : Bool) × (t.own ≡ s.own ++ placed_row b s.number act.Halt) × ((machine_at o t.seen).halted ≡ true)
 
 -- what the seat remembers then: it sent nothing more
 abbrev pub HaltsMemory : Origin → SeatMemory → SeatValue PlacedAct Origin → Type 0
@@ -32,7 +32,7 @@ pub record DownDone (o : Origin) (end : Option PerformError) (told remaining : O
   pub pushed : now ≡ items ++ item.End ∷ []
   pub number : u.number ≡ s.number
   pub later : Begins u.seen t.seen
-  pub halts : Halts end u t
+  pub halts : Halts o end u t
 
 -- the up line, up to its halt; `u` is the seat in between, and `k` what it remembers at the end
 pub record UpDone (o : Origin) (end : Option PerformError) (told remaining before now : Option (List ℕ)) (s t : SeatValue PlacedAct Origin) : Type 0 where
@@ -43,14 +43,25 @@ pub record UpDone (o : Origin) (end : Option PerformError) (told remaining befor
   pub same : sent_in (machine_at o []) k ≡ sent_in (machine_at o []) sent.k
   pub number : u.number ≡ s.number
   pub later : Begins u.seen t.seen
-  pub halts : Halts end u t
+  pub halts : Halts o end u t
 
--- the stage is finished, unless it was finished before; it isn't where a command found it closed
-abbrev pub FinishesStage : Result Flow PerformError → SeatValue PlacedAct Origin → SeatValue PlacedAct Origin → Type 0
-FinishesStage (Ok flow.On) s t = ⊥
-FinishesStage (Ok flow.Ended) s t = (b : Bool) × (t.own ≡ s.own ++ placed_row b s.number act.Finish)
-FinishesStage (Ok flow.Closed) s t = t.own ≡ s.own
-FinishesStage (Err e) s t = (b : Bool) × (t.own ≡ s.own ++ placed_row b s.number act.Finish)
+-- whether a command found the stage closed
+abbrev pub found_closed : Result Flow PerformError → Bool
+found_closed (Ok flow.On) = false
+found_closed (Ok flow.Ended) = false
+found_closed (Ok flow.Closed) = true
+found_closed (Err e) = false
+
+-- the stage is finished then: by this seat, unless it was finished before
+abbrev pub IsFinished : Origin → SeatValue PlacedAct Origin → SeatValue PlacedAct Origin → Type 0
+IsFinished o s t = (b : Bool) × (t.own ≡ s.own ++ placed_row b s.number act.Finish) × ((machine_at o t.seen).finishing ≡ true)
+
+-- commands that have ended finish the stage, but where one found it closed
+abbrev pub FinishesStage : Origin → Result Flow PerformError → SeatValue PlacedAct Origin → SeatValue PlacedAct Origin → Type 0
+FinishesStage o (Ok flow.On) s t = ⊥
+FinishesStage o (Ok flow.Ended) s t = IsFinished o s t
+FinishesStage o (Ok flow.Closed) s t = t.own ≡ s.own
+FinishesStage o (Err e) s t = IsFinished o s t
 
 -- what the seat remembers then: all that it did before, and acts behind it
 abbrev pub FinishesMemory : SeatMemory → SeatValue PlacedAct Origin → Type 0
@@ -65,7 +76,7 @@ pub record CommandsDone (o : Origin) (name : List ℕ) (who : ℕ) (end : Result
   pub remembers : Remembers k t
   pub number : u.number ≡ s.number
   pub later : Begins u.seen t.seen
-  pub finishes : FinishesStage end u t
+  pub finishes : FinishesStage o end u t
 
 -- the commands don't go on
 abbrev pub IsEnd : Result Flow PerformError → Type 0

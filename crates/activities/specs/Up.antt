@@ -18,6 +18,7 @@ use Rattle.stage_state.specs.declared.act.Next.TheVariants as next
 use Rattle.stage_state.specs.declared.played.Origin.{Origin}
 use Rattle.stage_state.specs.Machine.{Machine, next_of, after_act}
 use Rattle.stage_state.specs.Origins.{machine_at}
+use Rattle.stage_state.specs.Replies.{accepts}
 use Rattle.activities.specs.declared.up.Placing.{Placing}
 use Rattle.activities.specs.declared.errors.Side.{Side}
 use Rattle.activities.specs.declared.errors.Side.TheVariants as side
@@ -25,7 +26,7 @@ use Rattle.activities.specs.declared.errors.What.{What}
 use Rattle.activities.specs.declared.errors.What.TheVariants as what
 use Rattle.activities.specs.declared.errors.PerformError.{PerformError}
 use Rattle.activities.specs.declared.errors.PerformError.TheVariants as error
-use Rattle.activities.specs.Lines.{GaveLines, IsHeldBack, number_behind}
+use Rattle.activities.specs.Lines.{GaveLines, IsHeldBack, WantsAtLine, number_behind}
 use Rattle.activities.specs.Memory.{PlacedAct, SeatMemory, Remembers}
 
 -- the longest line of a request that the server takes, and the longest reply that a performer reads, in bytes
@@ -35,6 +36,10 @@ longest_request = 1048576
 -- the line of a call under its number
 abbrev pub call_line : ℕ × Call → List ℕ
 call_line pair = printed_line (request_data (request.Call pair.0 pair.1))
+
+-- the call's line isn't longer than the server takes; its line feed isn't counted
+abbrev pub FitsRequest : ℕ × Call → Type 0
+FitsRequest pair = length (call_line pair) ≤ longest_request + 1
 
 -- the lines of these, one behind the other
 abbrev pub call_lines : List (ℕ × Call) → List ℕ
@@ -77,6 +82,11 @@ placing_of (wire.Bad line) = None
 placing_of (wire.Long line) = None
 placing_of (wire.Unfit line) = None
 
+-- where a call was placed, or the reply by which it wasn't
+abbrev pub placed_or_refused : Option Placing → WireReply → Result Placing PerformError
+placed_or_refused (Some placing) r = Ok placing
+placed_or_refused None r = Err (error.Refused r)
+
 -- the line is a reply that says so
 abbrev pub TellsPlacing : Placing → List ℕ → Type 0
 TellsPlacing placing line = (r : WireReply) × (reply_of_line line ≡ Some r) × (placing_of r ≡ Some placing)
@@ -116,41 +126,42 @@ IsUnwritten pair front (error.BadPeer side line what) = ⊥
 IsUnwritten pair front (error.LongRequest bytes) = (front ≡ []) × (bytes + 1 ≡ length (call_line pair)) × (longest_request < bytes)
 IsUnwritten pair front error.Memory = front ≡ []
 
--- why no reply was read by which the call was placed: `last` is the line of this number, where it was read, and `rest` is what was to come behind it
-abbrev pub IsUnplaced : ℕ → List (List ℕ) → Option (List ℕ) → PerformError → Type 0
-IsUnplaced number last rest error.ReadFault = ⊥
-IsUnplaced number last rest error.WriteFault = ⊥
-IsUnplaced number last rest error.NetFault = last ≡ []
-IsUnplaced number last rest (error.BadInput line) = ⊥
-IsUnplaced number last rest error.TooMuch = ⊥
-IsUnplaced number last rest (error.Refused reply) = TellsRefusal reply last
-IsUnplaced number last rest (error.Dropped at) = ⊥
-IsUnplaced number last rest (error.BadPeer side line what) = (line ≡ number) × IsWrongReplyOn side what last rest
-IsUnplaced number last rest (error.LongRequest bytes) = ⊥
-IsUnplaced number last rest error.Memory = length last ≤ 1
+-- why no reply was read by which the call was placed: `last` is the line of this number, where it was read, `rest` is what was to come behind it, and `remaining` what
+-- remains of the source
+abbrev pub IsUnplaced : ℕ → List (List ℕ) → Option (List ℕ) → Option (List ℕ) → PerformError → Type 0
+IsUnplaced number last rest remaining error.ReadFault = ⊥
+IsUnplaced number last rest remaining error.WriteFault = ⊥
+IsUnplaced number last rest remaining error.NetFault = last ≡ []
+IsUnplaced number last rest remaining (error.BadInput line) = ⊥
+IsUnplaced number last rest remaining error.TooMuch = ⊥
+IsUnplaced number last rest remaining (error.Refused reply) = TellsRefusal reply last
+IsUnplaced number last rest remaining (error.Dropped at) = ⊥
+IsUnplaced number last rest remaining (error.BadPeer side line what) = (line ≡ number) × IsWrongReplyOn side what last rest
+IsUnplaced number last rest remaining (error.LongRequest bytes) = ⊥
+IsUnplaced number last rest remaining error.Memory = WantsAtLine longest_request last rest remaining
 
 -- why a call stopped the up line: `front` of its line alone was written, or all of it, and no reply was read by which it was placed
-abbrev pub FailedCall : ℕ → ℕ × Call → List ℕ → List (List ℕ) → Option (List ℕ) → PerformError → Type 0
-FailedCall number pair front last rest error =
-    (IsUnwritten pair front error × (last ≡ [])) ⊎ ((front ≡ call_line pair) × IsUnplaced number last rest error)
+abbrev pub FailedCall : ℕ → ℕ × Call → List ℕ → List (List ℕ) → Option (List ℕ) → Option (List ℕ) → PerformError → Type 0
+FailedCall number pair front last rest remaining error =
+    (IsUnwritten pair front error × (last ≡ [])) ⊎ ((front ≡ call_line pair) × IsUnplaced number last rest remaining error × FitsRequest pair)
 
 -- a call's line was written, or the front of it, and why
 abbrev pub WroteCall : ℕ × Call → Option (List ℕ) → Option (List ℕ) → Result (Unit {0}) PerformError → Type 0
-WroteCall pair before now (Ok u) = now ≡ at_end before (call_line pair)
+WroteCall pair before now (Ok u) = (now ≡ at_end before (call_line pair)) × FitsRequest pair
 WroteCall pair before now (Err error) = (front : List ℕ) × (now ≡ at_end before front) × IsUnwritten pair front error
 
 -- the reply was read by which a call was placed, or why not
 abbrev pub ReadsReply : ℕ → Option (List ℕ) → Option (List ℕ) → Option (List ℕ) → Result Placing PerformError → Type 0
 ReadsReply number told after remaining (Ok placing) = (line : List ℕ) × GaveLines told (line ∷ []) after × TellsPlacing placing line
 ReadsReply number told after remaining (Err error) =
-    (last : List (List ℕ)) × (rest : Option (List ℕ)) × GaveLines told last rest × IsHeldBack rest remaining × IsUnplaced number last rest error
+    (last : List (List ℕ)) × (rest : Option (List ℕ)) × GaveLines told last rest × IsHeldBack rest remaining × IsUnplaced number last rest remaining error
 
 -- one call: its line was written, and the reply was read by which it was placed; or why not
 abbrev pub SentCall : ℕ → ℕ × Call → Option (List ℕ) → Option (List ℕ) → Option (List ℕ) → Option (List ℕ) → Option (List ℕ) → Result Placing PerformError → Type 0
 SentCall number pair told after remaining before now (Ok placing) =
-    (line : List ℕ) × GaveLines told (line ∷ []) after × TellsPlacing placing line × (now ≡ at_end before (call_line pair))
+    (line : List ℕ) × GaveLines told (line ∷ []) after × TellsPlacing placing line × (now ≡ at_end before (call_line pair)) × FitsRequest pair
 SentCall number pair told after remaining before now (Err error) = (front : List ℕ) × (last : List (List ℕ)) × (rest : Option (List ℕ)) × GaveLines told last rest
-    × IsHeldBack rest remaining × (now ≡ at_end before front) × FailedCall number pair front last rest error
+    × IsHeldBack rest remaining × (now ≡ at_end before front) × FailedCall number pair front last rest remaining error
 
 -- ---- the whole line
 
@@ -158,12 +169,13 @@ SentCall number pair told after remaining before now (Err error) = (front : List
 abbrev pub IsNextAct : PlacedAct → Type 0
 IsNextAct r = r.1 ≡ act.Next
 
--- why it stopped. With no error nothing more goes out; with one, a call that went out has no reply by which it was placed, or memory was wanting before one
--- went out
-abbrev pub UpEnds : Origin → List PlacedAct → ℕ → List (ℕ × Call) → List ℕ → List (List ℕ) → Option (List ℕ) → Option PerformError → Type 0
-UpEnds o seen number lost front last rest None = (lost ≡ []) × (front ≡ []) × (last ≡ []) × (next_of (machine_at o seen) ≡ next.Done)
-UpEnds o seen number lost front last rest (Some e) =
-    ((lost ≡ []) × (front ≡ []) × (last ≡ []) × (e ≡ error.Memory)) ⊎ ((pair : ℕ × Call) × (lost ≡ pair ∷ []) × FailedCall number pair front last rest e)
+-- why it stopped. With no error nothing more goes out; with one, a call that went out has no reply by which it was placed, or memory was wanting where one
+-- would go out
+abbrev pub UpEnds : Origin → List PlacedAct → ℕ → List (ℕ × Call) → List ℕ → List (List ℕ) → Option (List ℕ) → Option (List ℕ) → Option PerformError → Type 0
+UpEnds o seen number lost front last rest remaining None = (lost ≡ []) × (front ≡ []) × (last ≡ []) × (next_of (machine_at o seen) ≡ next.Done)
+UpEnds o seen number lost front last rest remaining (Some e) =
+    ((lost ≡ []) × (front ≡ []) × (last ≡ []) × (e ≡ error.Memory) × (accepts (machine_at o seen) act.Next ≡ true))
+    ⊎ ((pair : ℕ × Call) × (lost ≡ pair ∷ []) × FailedCall number pair front last rest remaining e)
 
 -- all that the up line did: the calls that its acts sent were written, each with its reply read, but perhaps the last, `lost`
 pub record SentUp (o : Origin) (end : Option PerformError) (told remaining before now : Option (List ℕ)) (s t : SeatValue PlacedAct Origin) : Type 0 where
@@ -173,6 +185,7 @@ pub record SentUp (o : Origin) (end : Option PerformError) (told remaining befor
   pub calls : List (ℕ × Call)
   pub lost : List (ℕ × Call)
   pub sent : sent_in (machine_at o []) k ≡ calls ++ lost
+  pub fit : AllOf FitsRequest calls
   pub front : List ℕ
   pub written : now ≡ at_end before (call_lines calls ++ front)
   pub replies : List (List ℕ)
@@ -182,4 +195,4 @@ pub record SentUp (o : Origin) (end : Option PerformError) (told remaining befor
   pub held : IsHeldBack rest remaining
   pub placed : AllOf TellsPlaced replies
   pub even : length replies ≡ length calls
-  pub ends : UpEnds o t.seen (number_behind 2 replies) lost front last rest end
+  pub ends : UpEnds o t.seen (number_behind 2 replies) lost front last rest remaining end

@@ -2,13 +2,13 @@
 ghost use Rattle.std.specs.Prelude.{◌≡◌, ◌≤◌, ◌<◌, ◌+◌, ◌-◌, ◌^◌, [], true, false, min, length, IfOk};
 ghost use Rattle.activities.specs.Commands.{RanCommands, DidLine, longest_command, most_commands};
 ghost use Rattle.activities.specs.Counts.{CountsInput, CountsOutput};
-ghost use Rattle.activities.specs.Ending.{CommandsDone, FinishesStage, FinishesMemory, IsEnd};
+ghost use Rattle.activities.specs.Ending.{CommandsDone, FinishesStage, FinishesMemory, IsEnd, found_closed};
 ghost use Rattle.activities.specs.Lines.{coming, MayRead};
 ghost use Rattle.activities.specs.Memory.{SeatMemory, Remembers, IsStageSeat, KeepsSeat, origin_at};
 
 use crate::asking::do_command;
 use crate::errors::PerformError;
-use crate::reading::next_line;
+use crate::reading::{next_line, value_or};
 use crate::stage_hall::{StageSeat, play};
 use ot_text::Text;
 use seat_lock::Hall;
@@ -16,7 +16,7 @@ use stage_state::{Act, Stage};
 use std::alloc::Global;
 use std::sync::Wait;
 use troop_ports::{Sink, Source};
-use wire_json::{Read, is_blank_line, read_command};
+use wire_json::{is_blank_line, read_command};
 use wire_lines::{Line, LineReader};
 
 /// How many bytes the lines of commands have at most, each with its line feed.
@@ -76,13 +76,20 @@ fn finish_at<W: Wait>(
     requires seat { IsStageSeat hall.now seat.old }
     requires done { IsEnd end }
     ensures seat { KeepsSeat hall.now seat.old seat.new }
-    ensures own { FinishesStage end seat.old seat.new }
+    ensures own { FinishesStage (origin_at hall.now) end seat.old seat.new }
     ensures memory { (k : SeatMemory) → Remembers k seat.old → FinishesMemory k seat.new }
 {
-    if matches!(end, Ok(Flow::Closed)) {
+    if found_closed(end) {
         return;
     }
     let _ = play(rt, hall, seat, &Act::Finish);
+}
+
+// Whether a command found the stage closed.
+fn found_closed(end: Result<Flow, PerformError>) -> bool
+    ensures { result ≡ found_closed end }
+{
+    matches!(end, Ok(Flow::Closed))
 }
 
 // Does the commands, until they end.
@@ -159,10 +166,10 @@ fn do_line<C: Source, O: Sink, W: Wait>(
     if is_blank_line(text.as_slice()) {
         return Ok(Flow::On);
     }
-    match read_command(alloc, text.as_slice()) {
-        Read::Value(command) => do_command(rt, alloc, hall, seat, who, name, command, out),
-        Read::Bad => Err(PerformError::BadInput { line: number }),
-        Read::Memory => Err(PerformError::Memory),
+    let bad = PerformError::BadInput { line: number };
+    match value_or(read_command(alloc, text.as_slice()), bad) {
+        Ok(command) => do_command(rt, alloc, hall, seat, who, name, command, out),
+        Err(error) => Err(error),
     }
 }
 

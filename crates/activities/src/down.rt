@@ -14,7 +14,7 @@ ghost use Rattle.activities.specs.Memory.{IsStageSeat, KeepsSeat, origin_at};
 
 use crate::ending::halt_at;
 use crate::errors::{PerformError, Side, What};
-use crate::reading::next_line;
+use crate::reading::{next_line, value_or};
 use crate::stage_hall::{StageSeat, leave_was_sent, play};
 use block_queue::{Feeder, Item, Queue};
 use seat_lock::Hall;
@@ -23,7 +23,7 @@ use std::alloc::Global;
 use std::sync::Wait;
 use troop_entry::{Block, Deed, Entry};
 use troop_ports::Link;
-use wire_json::{Read, read_entry};
+use wire_json::read_entry;
 use wire_lines::{Line, LineReader};
 
 /// An entry that was taken: its position, the block that it is, and whether it is the own leave.
@@ -170,12 +170,11 @@ fn take_line<L: Link, W: Wait>(
         Line::Fault => return Err(PerformError::NetFault),
         Line::Memory => return Err(PerformError::Memory),
     };
-    let entry = match read_entry(alloc, text.as_slice()) {
-        Read::Value(entry) => entry,
-        Read::Bad => return Err(wrong(number, What::Unread)),
-        Read::Memory => return Err(PerformError::Memory),
-    };
-    take_entry(rt, hall, seat, who, number, entry)
+    let unread = wrong(number, What::Unread);
+    match value_or(read_entry(alloc, text.as_slice()), unread) {
+        Ok(entry) => take_entry(rt, hall, seat, who, number, entry),
+        Err(error) => Err(error),
+    }
 }
 
 // What is wrong with the line of this number.

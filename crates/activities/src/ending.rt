@@ -17,7 +17,7 @@ pub(crate) fn halt_at<W: Wait>(
 )
     requires { IsStageSeat hall.now seat.old }
     ensures seat { KeepsSeat hall.now seat.old seat.new }
-    ensures own { Halts end.now seat.old seat.new }
+    ensures own { Halts (origin_at hall.now) end.now seat.old seat.new }
     ensures memory { (k : SeatMemory) → Remembers k seat.old → HaltsMemory (origin_at hall.now) k seat.new }
 {
     if end.is_none() {

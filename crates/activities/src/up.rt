@@ -6,11 +6,11 @@ ghost use Rattle.activities.specs.Counts.{CountsResult, CountsActivity};
 ghost use Rattle.activities.specs.Ending.{UpDone};
 ghost use Rattle.activities.specs.Lines.{coming, MayRead};
 ghost use Rattle.activities.specs.Memory.{IsStageSeat, KeepsSeat, origin_at};
-ghost use Rattle.activities.specs.Up.{SentCall, WroteCall, ReadsReply, SentUp, longest_request, placing_of};
+ghost use Rattle.activities.specs.Up.{SentCall, WroteCall, ReadsReply, SentUp, longest_request, placing_of, placed_or_refused};
 
 use crate::ending::halt_at;
 use crate::errors::{PerformError, Side, What};
-use crate::reading::next_line;
+use crate::reading::{next_line, value_or};
 use crate::stage_hall::{StageSeat, count_acts, play, wait_past};
 use seat_lock::Hall;
 use stage_state::{Act, ActReply, Next, Stage};
@@ -18,7 +18,7 @@ use std::alloc::Global;
 use std::sync::Wait;
 use troop_entry::{Call, Reply, Request};
 use troop_ports::{Link, Written, write_all};
-use wire_json::{Read, WireReply, read_reply};
+use wire_json::{WireReply, read_reply};
 use wire_lines::{Line, LineReader};
 use wire_print::print_request;
 
@@ -165,11 +165,17 @@ fn read_placing<L: Link>(
         Line::Fault => return Err(PerformError::NetFault),
         Line::Memory => return Err(PerformError::Memory),
     };
-    let reply = match read_reply(alloc, text.as_slice()) {
-        Read::Value(reply) => reply,
-        Read::Bad => return Err(wrong(number, What::Unread)),
-        Read::Memory => return Err(PerformError::Memory),
-    };
+    let unread = wrong(number, What::Unread);
+    match value_or(read_reply(alloc, text.as_slice()), unread) {
+        Ok(reply) => placed_or_refused(reply),
+        Err(error) => Err(error),
+    }
+}
+
+// Where the reply says that the call was placed; or the refusal that it is.
+fn placed_or_refused(reply: WireReply) -> Result<Placing, PerformError>
+    ensures { result ≡ placed_or_refused (placing_of reply) reply }
+{
     match placing_of(&reply) {
         Some(placing) => Ok(placing),
         None => Err(PerformError::Refused(reply)),

@@ -146,6 +146,16 @@ marked_all k t acts is later own =
     let same : length (acts_by t.number (seen_in k ++ later.0)) ≡ length (own_in k) = ap (λ l. length (acts_by t.number l)) all ∙ ap length own ∙ ap length (sym is.own) in
     ap (marked_by t.number) (sym all) ∙ marks t.number k later.0 numbered (omega (arith, same))
 
+-- the front of marked acts is its acts, marked
+pub front_marked : (n : ℕ) (k rest : SeatMemory) (acts : List PlacedAct) → k ++ rest ≡ marked_by n acts → marked_by n (seen_in k) ≡ k
+front_marked n [] rest acts is = refl
+front_marked n (x ∷ k) rest [] is = absurd (cc)
+front_marked n (x ∷ k) rest (r ∷ acts) is =
+    let head : x ≡ (r.0 == n, r) = cc in
+    let tail : k ++ rest ≡ marked_by n acts = cc in
+    let same : (x.1.0 == n, x.1) ≡ x = ap (λ (y : Bool × PlacedAct). (y.1.0 == n, y.1)) head ∙ sym head in
+    ap (λ (y : Bool × PlacedAct). y ∷ marked_by n (seen_in k)) same ∙ ap (λ l. x ∷ l) (front_marked n k rest acts tail)
+
 -- ---- what was sent
 
 next_sends : (n : Next) (m : Machine) → next_of m ≡ n → IsSend n → sent_pairs (after_act act.Next m) ≡ sent_pairs m ++ next_pair n

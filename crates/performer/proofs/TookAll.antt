@@ -30,7 +30,7 @@ use Rattle.performer.specs.Performed.{TookAll, SentAll, TypedAll, Shares, IsAskR
 use Rattle.activities.proofs.GaveLines.{begins_on}
 use Rattle.activities.proofs.Remembers.{all-append, own_in-append, own_in-by_others}
 use Rattle.performer.proofs.IsRising.{run_rises}
-use Rattle.performer.proofs.Picked.{picked_by, owned, one_of_three, entries_by, all_popped, sent_is, marked_all}
+use Rattle.performer.proofs.Picked.{picked_by, owned, one_of_three, entries_by, all_popped, sent_is, marked_all, front_marked}
 
 -- an act that entry_takes no entry, and by which nothing goes out
 abbrev Plain : PlacedAct → Type 0
@@ -42,7 +42,7 @@ NoEntry r = entry_in r.1 ≡ []
 abbrev NoNext : PlacedAct → Type 0
 NoNext r = next_in r.1 ≡ []
 
-all_of : {A : Type 0} (P Q : A → Type 0) (xs : List A) → ((x : A) → P x → Q x) → AllOf P xs → AllOf Q xs
+pub all_of : {A : Type 0} (P Q : A → Type 0) (xs : List A) → ((x : A) → P x → Q x) → AllOf P xs → AllOf Q xs
 all_of P Q [] f h = tt
 all_of P Q (x ∷ xs) f h = (f x h.0, all_of P Q xs f h.1)
 
@@ -60,7 +60,7 @@ done_plain n m (command.Until count) = tt
 done_plain n m command.Show = tt
 done_plain n m command.Leave = tt
 
-later_own : (k at : SeatMemory) → SeesMore k at → own_in at ≡ own_in k
+pub later_own : (k at : SeatMemory) → SeesMore k at → own_in at ≡ own_in k
 later_own k at later = ap own_in (sym later.1) ∙ own_in-append k (by_others later.0) ∙ ap (λ l. own_in k ++ l) (own_in-by_others later.0) ∙ append-nil (own_in k)
 
 ran_plain : (o : Origin) (n : ℕ) (name : List ℕ) (who : ℕ) (cs : List Command) (k end : SeatMemory) (bytes : List ℕ) → AllOf Plain (own_in k)
@@ -78,12 +78,12 @@ last_plain : (b : Bool) (n : ℕ) (a : Act) → Plain (n, a) → AllOf Plain (pl
 last_plain true n a h = (h, tt)
 last_plain false n a h = tt
 
-finish_plain : (end : Result Flow PerformError) (u t : SeatValue PlacedAct Origin) → FinishesStage end u t → AllOf Plain u.own → AllOf Plain t.own
-finish_plain (Ok flow.On) u t h own = absurd h
-finish_plain (Ok flow.Ended) u t h own =
+finish_plain : (o : Origin) (end : Result Flow PerformError) (u t : SeatValue PlacedAct Origin) → FinishesStage o end u t → AllOf Plain u.own → AllOf Plain t.own
+finish_plain o (Ok flow.On) u t h own = absurd h
+finish_plain o (Ok flow.Ended) u t h own =
     subst (λ (l : List PlacedAct). AllOf Plain l) (sym h.1) (all-append Plain u.own (placed_row h.0 u.number act.Finish) own (last_plain h.0 u.number act.Finish (refl, refl)))
-finish_plain (Ok flow.Closed) u t h own = subst (λ (l : List PlacedAct). AllOf Plain l) (sym h) own
-finish_plain (Err e) u t h own =
+finish_plain o (Ok flow.Closed) u t h own = subst (λ (l : List PlacedAct). AllOf Plain l) (sym h) own
+finish_plain o (Err e) u t h own =
     subst (λ (l : List PlacedAct). AllOf Plain l) (sym h.1) (all-append Plain u.own (placed_row h.0 u.number act.Finish) own (last_plain h.0 u.number act.Finish (refl, refl)))
 
 pub commands_plain : (o : Origin) (name : List ℕ) (who : ℕ) (end : Result Flow PerformError) (told left before now : Option (List ℕ)) (s t : SeatValue PlacedAct Origin)
@@ -93,51 +93,57 @@ commands_plain o name who end told left before now s t h =
     let done : AllOf Plain (own_in ran.done) = ran_plain o s.number name who ran.commands [] ran.done ran.printed tt ran.ran in
     let own : AllOf Plain h.u.own =
     subst (λ (l : List PlacedAct). AllOf Plain l) (sym (later_own ran.done ran.k ran.later) ∙ ran.remembers.own) done in
-    finish_plain end h.u t h.finishes own
+    finish_plain o end h.u t h.finishes own
 
 -- ---- the up line's acts take no entry
-
-next_noentry : (r : PlacedAct) → IsNextAct r → NoEntry r
-next_noentry r e = ap entry_in e
 
 last_all : (P : PlacedAct → Type 0) (b : Bool) (n : ℕ) → P (n, act.Halt) → AllOf P (placed_row b n act.Halt)
 last_all P true n p = (p, tt)
 last_all P false n p = tt
 
-halt_all : (P : PlacedAct → Type 0) (end : Option PerformError) (u t : SeatValue PlacedAct Origin) → Halts end u t → ((n : ℕ) → P (n, act.Halt)) → AllOf P u.own → AllOf P t.own
-halt_all P None u t h p own = subst (λ (l : List PlacedAct). AllOf P l) (sym h) own
-halt_all P (Some e) u t h p own = subst (λ (l : List PlacedAct). AllOf P l) (sym h.1) (all-append P u.own (placed_row h.0 u.number act.Halt) own (last_all P h.0 u.number (p u.number)))
+halt_all : (P : PlacedAct → Type 0) (o : Origin) (end : Option PerformError) (u t : SeatValue PlacedAct Origin) → Halts o end u t → ((n : ℕ) → P (n, act.Halt)) → AllOf P u.own → AllOf P t.own
+halt_all P o None u t h p own = subst (λ (l : List PlacedAct). AllOf P l) (sym h) own
+halt_all P o (Some e) u t h p own = subst (λ (l : List PlacedAct). AllOf P l) (sym h.1) (all-append P u.own (placed_row h.0 u.number act.Halt) own (last_all P h.0 u.number (p u.number)))
+
+-- what holds of each `next` and of a halt holds of each act of the up line
+pub up_all : (P : PlacedAct → Type 0) (o : Origin) (end : Option PerformError) (told left before now : Option (List ℕ)) (s t : SeatValue PlacedAct Origin)
+    → ((r : PlacedAct) → IsNextAct r → P r) → ((n : ℕ) → P (n, act.Halt)) → s.own ≡ [] → UpDone o end told left before now s t → AllOf P t.own
+up_all P o end told left before now s t at_next at_halt fresh h =
+    let nexts = h.sent.nexts in
+    let own : h.u.own ≡ nexts.0 = nexts.1 ∙ ap (λ l. l ++ nexts.0) fresh in
+    halt_all P o end h.u t h.halts at_halt (subst (λ (l : List PlacedAct). AllOf P l) (sym own) (all_of IsNextAct P nexts.0 at_next nexts.2))
 
 pub up_noentry : (o : Origin) (end : Option PerformError) (told left before now : Option (List ℕ)) (s t : SeatValue PlacedAct Origin) → s.own ≡ []
     → UpDone o end told left before now s t → AllOf NoEntry t.own
-up_noentry o end told left before now s t fresh h =
-    let nexts = h.sent.nexts in
-    let own : h.u.own ≡ nexts.0 = nexts.1 ∙ ap (λ l. l ++ nexts.0) fresh in
-    halt_all NoEntry end h.u t h.halts (λ n. refl)
-    (subst (λ (l : List PlacedAct). AllOf NoEntry l) (sym own) (all_of IsNextAct NoEntry nexts.0 next_noentry nexts.2))
+up_noentry o end told left before now s t fresh h = up_all NoEntry o end told left before now s t (λ r e. ap entry_in e) (λ n. refl) fresh h
 
 -- ---- the down line's acts send nothing
 
-takes_nonext : (n : ℕ) (es : List Entry) → AllOf NoNext (entry_takes n es)
-takes_nonext n [] = tt
-takes_nonext n (e ∷ es) = (refl, takes_nonext n es)
+takes_all : (P : PlacedAct → Type 0) (n : ℕ) (es : List Entry) → ((n : ℕ) (e : Entry) → P (n, act.Take e)) → AllOf P (entry_takes n es)
+takes_all P n [] at_take = tt
+takes_all P n (e ∷ es) at_take = (at_take n e, takes_all P n es at_take)
+
+-- what holds of each entry taken and of a halt holds of each act of the down line
+pub down_all : (P : PlacedAct → Type 0) (o : Origin) (end : Option PerformError) (told left : Option (List ℕ)) (s t : SeatValue PlacedAct Origin) (before now : List Item)
+    → ((n : ℕ) (e : Entry) → P (n, act.Take e)) → ((n : ℕ) → P (n, act.Halt)) → s.own ≡ [] → DownDone o end told left s t before now → AllOf P t.own
+down_all P o end told left s t before now at_take at_halt fresh h =
+    let own : h.u.own ≡ entry_takes s.number h.took.entries = h.took.lines.own ∙ ap (λ l. l ++ entry_takes s.number h.took.entries) fresh in
+    halt_all P o end h.u t h.halts at_halt (subst (λ (l : List PlacedAct). AllOf P l) (sym own) (takes_all P s.number h.took.entries at_take))
 
 pub down_nonext : (o : Origin) (end : Option PerformError) (told left : Option (List ℕ)) (s t : SeatValue PlacedAct Origin) (before now : List Item) → s.own ≡ []
     → DownDone o end told left s t before now → AllOf NoNext t.own
-down_nonext o end told left s t before now fresh h =
-    let own : h.u.own ≡ entry_takes s.number h.took.entries = h.took.lines.own ∙ ap (λ l. l ++ entry_takes s.number h.took.entries) fresh in
-    halt_all NoNext end h.u t h.halts (λ n. refl) (subst (λ (l : List PlacedAct). AllOf NoNext l) (sym own) (takes_nonext s.number h.took.entries))
+down_nonext o end told left s t before now fresh h = down_all NoNext o end told left s t before now (λ n e. refl) (λ n. refl) fresh h
 
-down_own : (end : Option PerformError) (u t : SeatValue PlacedAct Origin) → Halts end u t → (b : Bool) × (t.own ≡ u.own ++ placed_row b u.number act.Halt)
-down_own None u t h = (false, h ∙ sym (append-nil u.own))
-down_own (Some e) u t h = h
+down_own : (o : Origin) (end : Option PerformError) (u t : SeatValue PlacedAct Origin) → Halts o end u t → (b : Bool) × (t.own ≡ u.own ++ placed_row b u.number act.Halt)
+down_own o None u t h = (false, h ∙ sym (append-nil u.own))
+down_own o (Some e) u t h = (h.0, h.1)
 
 -- ---- all together
 
-abbrev Own : SeatValue PlacedAct Origin → List PlacedAct → Type 0
+abbrev pub Own : SeatValue PlacedAct Origin → List PlacedAct → Type 0
 Own t acts = acts_by t.number acts ≡ t.own
 
-of_own : (P : PlacedAct → Type 0) (t : SeatValue PlacedAct Origin) (acts : List PlacedAct) → Own t acts → AllOf P t.own → AllOf (λ (r : PlacedAct). r.0 ≡ t.number → P r) acts
+pub of_own : (P : PlacedAct → Type 0) (t : SeatValue PlacedAct Origin) (acts : List PlacedAct) → Own t acts → AllOf P t.own → AllOf (λ (r : PlacedAct). r.0 ≡ t.number → P r) acts
 of_own P t acts own h = owned P t.number acts (subst (λ (l : List PlacedAct). AllOf P l) (sym own) h)
 
 pub took_all : (o : Origin) (acts : List PlacedAct) (c u d : SeatValue PlacedAct Origin) (s : SeatValue PlacedAct Origin) (end : Option PerformError) (told left : Option (List ℕ))
@@ -147,7 +153,7 @@ pub took_all : (o : Origin) (acts : List PlacedAct) (c u d : SeatValue PlacedAct
     → ArePlayed o acts → DownDone o end told left s d [] pushed → Drove starved [] popped old new → pushed ≡ popped ++ rest → TookAll o acts end told left popped starved old new
 took_all o acts c u d s end told left pushed popped rest starved old new every own_c own_u own_d plain noentry fresh same later run down drove order =
     let es = down.took.entries in
-    let h = down_own end down.u d down.halts in
+    let h = down_own o end down.u d down.halts in
     let own : d.own ≡ entry_takes s.number es ++ placed_row h.0 s.number act.Halt =
     h.1 ∙ ap (λ l. l ++ placed_row h.0 down.u.number act.Halt) (down.took.lines.own ∙ ap (λ l. l ++ entry_takes s.number es) fresh)
     ∙ ap (λ n. entry_takes s.number es ++ placed_row h.0 n act.Halt) down.number in
@@ -192,6 +198,7 @@ sent_all o acts c u d s end told left before now every own_c own_u own_d plain n
       calls = up.sent.calls;
       lost = up.sent.lost;
       sent = sent_is o up.k u acts up.remembers later own_u run alone ∙ up.same ∙ up.sent.sent;
+      fit = up.sent.fit;
       front = up.sent.front;
       written = up.sent.written;
       replies = up.sent.replies;
@@ -254,10 +261,13 @@ three start acts seats f u d none are empty index unmade made made_u made_d sett
 -- ---- the commands, of all acts
 
 typed_from : (o : Origin) (acts : List PlacedAct) (f s : SeatValue PlacedAct Origin) (name : List ℕ) (who : ℕ) (end : Result Flow PerformError) (told left before now : Option (List ℕ)) (n : ℕ)
-    → n ≡ s.number → Begins f.seen acts → (h : CommandsDone o name who end told left before now s f) → Begins h.k (marked_by n acts) → TypedAll o acts n name who end told left before now
-typed_from o acts f s name who end told left before now n same later h marked =
+    → n ≡ s.number → Begins f.seen acts → (h : CommandsDone o name who end told left before now s f) → Begins h.k (marked_by n acts) → FinishBehind end n (own_in h.ran.done) acts
+    → TypedAll o acts n name who end told left before now
+typed_from o acts f s name who end told left before now n same later h marked own_are =
     let r = h.ran in
     let in_k : Begins r.done r.k = (by_others r.later.0, r.later.1) in
+    let in_acts : Begins r.k (marked_by n acts) = begins_on r.k h.k (marked_by n acts) h.behind marked in
+    let in_seen : marked_by n h.u.seen ≡ r.k = ap (marked_by n) (sym r.remembers.seen) ∙ front_marked n r.k in_acts.0 acts in_acts.1 in
     record {
       given = r.given;
       commands = r.commands;
@@ -270,80 +280,18 @@ typed_from o acts f s name who end told left before now n same later h marked =
       printed = r.printed;
       done = r.done;
       ran = subst (λ (n : ℕ). RunsCommands o n name who [] r.commands r.printed r.done) (sym same) r.ran;
-      front_of = begins_on r.done r.k (marked_by n acts) in_k (begins_on r.k h.k (marked_by n acts) h.behind marked);
+      front_of = begins_on r.done r.k (marked_by n acts) in_k in_acts;
+      own_are = own_are;
       front = r.front;
       written = r.written;
       seen = h.u.seen;
       earlier = begins_on h.u.seen f.seen acts h.later later;
+      here = (r.later.0, r.later.1 ∙ sym in_seen);
       ends = r.ends;
     }
 
 pub typed_all : (o : Origin) (acts : List PlacedAct) (f s : SeatValue PlacedAct Origin) (name : List ℕ) (who : ℕ) (end : Result Flow PerformError) (told left before now : Option (List ℕ))
-    → f.number ≡ s.number → Begins f.seen acts → Own f acts → CommandsDone o name who end told left before now s f
-    → TypedAll o acts f.number name who end told left before now
-typed_all o acts f s name who end told left before now same later own h =
-    typed_from o acts f s name who end told left before now f.number same later h (by_others later.0, sym (marked_all h.k f acts h.remembers later own))
-
--- ---- whose acts they are
-
-mine_asks : (b : Bool) (n : ℕ) (a : Act) → IsAskRow (n, a) → AllOf IsAskRow (own_in (own_act b n a))
-mine_asks true n a h = (h, tt)
-mine_asks false n a h = tt
-
-done_asks : (n : ℕ) (m : Machine) (c : Command) → AllOf IsAskRow (own_in (done_by n m c))
-done_asks n m (command.Edit op) = mine_asks (accepts m (act.Typed op)) n (act.Typed op) refl
-done_asks n m (command.Eval place) = mine_asks (accepts m (act.Eval place)) n (act.Eval place) refl
-done_asks n m (command.Reset text) = mine_asks (accepts m (act.Reset text)) n (act.Reset text) refl
-done_asks n m (command.Until count) = tt
-done_asks n m command.Show = tt
-done_asks n m command.Leave = tt
-
-ran_asks : (o : Origin) (n : ℕ) (name : List ℕ) (who : ℕ) (cs : List Command) (k end : SeatMemory) (bytes : List ℕ) → AllOf IsAskRow (own_in k)
-    → RunsCommands o n name who k cs bytes end → AllOf IsAskRow (own_in end)
-ran_asks o n name who [] k end bytes h ran = subst (λ (l : SeatMemory). AllOf IsAskRow (own_in l)) (sym ran.1) h
-ran_asks o n name who (c ∷ cs) k end bytes h ran =
-    let at = ran.0 in
-    let m = machine_at o (seen_in at) in
-    let here : AllOf IsAskRow (own_in at) = subst (λ (l : List PlacedAct). AllOf IsAskRow l) (sym (later_own k at ran.2)) h in
-    let more : AllOf IsAskRow (own_in (at ++ done_by n m c)) =
-    subst (λ (l : List PlacedAct). AllOf IsAskRow l) (sym (own_in-append at (done_by n m c))) (all-append IsAskRow (own_in at) (own_in (done_by n m c)) here (done_asks n m c)) in
-    ran_asks o n name who cs (at ++ done_by n m c) end ran.1 more ran.5
-
-halt_behind : (end : Option PerformError) (u t : SeatValue PlacedAct Origin) (n : ℕ) (own all : List PlacedAct) → Halts end u t → u.number ≡ n → u.own ≡ own → all ≡ t.own → HaltBehind end n own all
-halt_behind None u t n own all h same is whole = whole ∙ h ∙ is
-halt_behind (Some e) u t n own all h same is whole =
-    (h.0, whole ∙ h.1 ∙ ap (λ l. l ++ placed_row h.0 u.number act.Halt) is ∙ ap (λ n. own ++ placed_row h.0 n act.Halt) same)
-
-finish_behind : (end : Result Flow PerformError) (u t : SeatValue PlacedAct Origin) (n : ℕ) (own all : List PlacedAct) → FinishesStage end u t → u.number ≡ n → u.own ≡ own → all ≡ t.own → FinishBehind end n own all
-finish_behind (Ok flow.On) u t n own all h same is whole = absurd h
-finish_behind (Ok flow.Ended) u t n own all h same is whole =
-    (h.0, whole ∙ h.1 ∙ ap (λ l. l ++ placed_row h.0 u.number act.Finish) is ∙ ap (λ n. own ++ placed_row h.0 n act.Finish) same)
-finish_behind (Ok flow.Closed) u t n own all h same is whole = whole ∙ h ∙ is
-finish_behind (Err e) u t n own all h same is whole =
-    (h.0, whole ∙ h.1 ∙ ap (λ l. l ++ placed_row h.0 u.number act.Finish) is ∙ ap (λ n. own ++ placed_row h.0 n act.Finish) same)
-
-pub shares : (o : Origin) (acts : List PlacedAct) (f u d sf su sd : SeatValue PlacedAct Origin) (name : List ℕ) (who : ℕ) (cend : Result Flow PerformError) (uend dend : Option PerformError)
-    (ct cl cb cn ut ul ub un dt dl : Option (List ℕ)) (ib inow : List Item) → Three acts f u d → f.number ≡ sf.number → u.number ≡ su.number → d.number ≡ sd.number
-    → su.own ≡ [] → sd.own ≡ [] → CommandsDone o name who cend ct cl cb cn sf f → UpDone o uend ut ul ub un su u → DownDone o dend dt dl sd d ib inow
-    → Shares acts cend uend dend f.number u.number d.number
-shares o acts f u d sf su sd name who cend uend dend ct cl cb cn ut ul ub un dt dl ib inow t nf nu nd fresh_u fresh_d typed up down =
-    let ran = typed.ran in
-    let own_f : typed.u.own ≡ own_in ran.done = sym ran.remembers.own ∙ later_own ran.done ran.k ran.later in
-    record {
-      every = t.every;
-      asks = (
-        own_in ran.done,
-        ran_asks o sf.number name who ran.commands [] ran.done ran.printed tt ran.ran,
-        finish_behind cend typed.u f f.number (own_in ran.done) (acts_by f.number acts) typed.finishes (typed.number ∙ sym nf) own_f t.own_f,
-      );
-      nexts = (
-        up.sent.nexts.0,
-        up.sent.nexts.2,
-        halt_behind uend up.u u u.number up.sent.nexts.0 (acts_by u.number acts) up.halts (up.number ∙ sym nu) (up.sent.nexts.1 ∙ ap (λ l. l ++ up.sent.nexts.0) fresh_u) t.own_u,
-      );
-      entries = (
-        down.took.entries,
-        halt_behind dend down.u d d.number (entry_takes d.number down.took.entries) (acts_by d.number acts) down.halts (down.number ∙ sym nd)
-            (down.took.lines.own ∙ ap (λ l. l ++ entry_takes sd.number down.took.entries) fresh_d ∙ ap (λ n. entry_takes n down.took.entries) (sym nd)) t.own_d,
-      );
-    }
+    → f.number ≡ s.number → Begins f.seen acts → Own f acts → (h : CommandsDone o name who end told left before now s f)
+    → FinishBehind end f.number (own_in h.ran.done) acts → TypedAll o acts f.number name who end told left before now
+typed_all o acts f s name who end told left before now same later own h own_are =
+    typed_from o acts f s name who end told left before now f.number same later h (by_others later.0, sym (marked_all h.k f acts h.remembers later own)) own_are

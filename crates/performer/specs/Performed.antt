@@ -1,5 +1,5 @@
 -- What a whole performance is: one history of acts, with what was read, sent, popped and fed.
-use Rattle.std.specs.Prelude.{◌≡◌, ℕ, ◌≤◌, Bool, List, [], ◌∷◌, ◌++◌, length, Option, None, Some, Result, Ok, Err}
+use Rattle.std.specs.Prelude.{◌≡◌, ◌⊎◌, ℕ, ◌≤◌, Bool, List, [], ◌∷◌, ◌++◌, length, Option, None, Some, Result, Ok, Err}
 use Rattle.seat_lock.specs.Lists.{Begins, AllOf, IsIn}
 use Rattle.troop_entry.specs.declared.call.Call.{Call}
 use Rattle.troop_entry.specs.declared.call.Lang.{Lang}
@@ -23,8 +23,8 @@ use Rattle.activities.specs.Commands.{RunsCommands, CommandsEnd, spoken_lines, l
 use Rattle.activities.specs.Down.{entry_takes, blocks_of, DownEnds}
 use Rattle.activities.specs.Driving.{ToldDriver, block_items, FedSome, IsToldOf}
 use Rattle.activities.specs.Lines.{GaveLines, IsHeldBack, AreReadAs, number_behind}
-use Rattle.activities.specs.Memory.{PlacedAct, SeatMemory, placed_row}
-use Rattle.activities.specs.Up.{call_line, call_lines, TellsPlaced, TellsPlacing, UpEnds, IsNextAct}
+use Rattle.activities.specs.Memory.{PlacedAct, SeatMemory, own_in, placed_row, SeesMore}
+use Rattle.activities.specs.Up.{call_line, call_lines, FitsRequest, TellsPlaced, TellsPlacing, UpEnds, IsNextAct}
 use Rattle.performer.specs.Opening.{join_pair}
 use Rattle.performer.specs.Joined.{picked, entry_in, ask_in, acts_by, marked_by}
 
@@ -40,16 +40,17 @@ pub record TookAll (o : Origin) (acts : List PlacedAct) (end : Option PerformErr
   pub taken : picked entry_in acts ≡ entries
   pub seen : List PlacedAct
   pub earlier : Begins seen acts
-  pub ends : DownEnds o seen given entries last rest end
+  pub ends : DownEnds o seen given entries last rest remaining end
   pub popped_is : popped ≡ block_items (blocks_of o.joined entries) ++ item.End ∷ []
   pub fed : FedSome starved (blocks_of o.joined entries) old new
   pub rise : IsRising fed.fed
 
--- the calls that the acts sent were written, under their numbers and in order, each with its reply, but perhaps the last
+-- the calls that the acts sent were written, under their numbers and in order, each with its reply, but perhaps the last; none of them was longer than the server takes
 pub record SentAll (o : Origin) (acts : List PlacedAct) (end : Option PerformError) (told remaining before now : Option (List ℕ)) : Type 0 where
   pub calls : List (ℕ × Call)
   pub lost : List (ℕ × Call)
   pub sent : sent_pairs (machine_at o acts) ≡ calls ++ lost
+  pub fit : AllOf FitsRequest calls
   pub front : List ℕ
   pub written : now ≡ at_end before (call_lines calls ++ front)
   pub replies : List (List ℕ)
@@ -61,9 +62,17 @@ pub record SentAll (o : Origin) (acts : List PlacedAct) (end : Option PerformErr
   pub even : length replies ≡ length calls
   pub seen : List PlacedAct
   pub earlier : Begins seen acts
-  pub ends : UpEnds o seen (number_behind 2 replies) lost front last rest end
+  pub ends : UpEnds o seen (number_behind 2 replies) lost front last rest remaining end
 
--- the commands read were done, in order: each met the machine at a front of the acts, with the seat's own acts of exactly the commands before it
+-- of all acts the seat's own are these, and behind them a finish, but where a command found the stage closed
+abbrev pub FinishBehind : Result Flow PerformError → ℕ → List PlacedAct → List PlacedAct → Type 0
+FinishBehind (Ok flow.On) n own acts = ⊥
+FinishBehind (Ok flow.Ended) n own acts = acts_by n acts ≡ own ++ (n, act.Finish) ∷ []
+FinishBehind (Ok flow.Closed) n own acts = acts_by n acts ≡ own
+FinishBehind (Err e) n own acts = acts_by n acts ≡ own ++ (n, act.Finish) ∷ []
+
+-- the commands read were done, in order: each met the machine at a front of the acts, with the seat's own acts of exactly the commands before it, and so did the line behind them at which they
+-- ended; of all acts the seat's own are those of the commands done, and then the finish
 pub record TypedAll (o : Origin) (acts : List PlacedAct) (number : ℕ) (name : List ℕ) (who : ℕ) (end : Result Flow PerformError) (told remaining before now : Option (List ℕ)) : Type 0 where
   pub given : List (List ℕ)
   pub commands : List Command
@@ -77,34 +86,34 @@ pub record TypedAll (o : Origin) (acts : List PlacedAct) (number : ℕ) (name : 
   pub done : SeatMemory
   pub ran : RunsCommands o number name who [] commands printed done
   pub front_of : Begins done (marked_by number acts)
+  pub own_are : FinishBehind end number (own_in done) acts
   pub front : List ℕ
   pub written : now ≡ at_end before (printed ++ front)
   pub seen : List PlacedAct
   pub earlier : Begins seen acts
-  pub ends : CommandsEnd o (number_behind 1 given) (lines_size given) name who seen last front rest end
+  pub here : SeesMore done (marked_by number seen)
+  pub ends : CommandsEnd o (number_behind 1 given) (lines_size given) name who seen last front rest remaining end
 
--- a halt behind these acts, only where there is an error
+-- one of these acts halts the stage
+abbrev pub HasHalt : List PlacedAct → Type 0
+HasHalt [] = ⊥
+HasHalt (r ∷ acts) = (r.1 ≡ act.Halt) ⊎ HasHalt acts
+
+-- of all acts the seat's own are these; where there is an error a halt may stand behind them, and one of all acts is a halt
 abbrev pub HaltBehind : Option PerformError → ℕ → List PlacedAct → List PlacedAct → Type 0
-HaltBehind None n own all = all ≡ own
-HaltBehind (Some e) n own all = (b : Bool) × (all ≡ own ++ placed_row b n act.Halt)
-
--- a finish behind these acts, but where a command found the stage closed
-abbrev pub FinishBehind : Result Flow PerformError → ℕ → List PlacedAct → List PlacedAct → Type 0
-FinishBehind (Ok flow.On) n own all = ⊥
-FinishBehind (Ok flow.Ended) n own all = (b : Bool) × (all ≡ own ++ placed_row b n act.Finish)
-FinishBehind (Ok flow.Closed) n own all = all ≡ own
-FinishBehind (Err e) n own all = (b : Bool) × (all ≡ own ++ placed_row b n act.Finish)
+HaltBehind None n own acts = acts_by n acts ≡ own
+HaltBehind (Some e) n own acts = (b : Bool) × (acts_by n acts ≡ own ++ placed_row b n act.Halt) × HasHalt acts
 
 -- the performer asks something by the act
 abbrev pub IsAskRow : PlacedAct → Type 0
 IsAskRow r = ask_in r.1 ≡ r.1 ∷ []
 
--- the acts are of three seats: one asks, and then finishes; one sends, and one takes entries, and each of these halts only where it has an error
+-- the acts are of three seats: one asks, and then finishes; one sends, and one takes entries, and each of these halts only where it has an error, and then the stage is halted
 pub record Shares (acts : List PlacedAct) (commands_end : Result Flow PerformError) (up_end down_end : Option PerformError) (typing up down : ℕ) : Type 0 where
   pub every : AllOf (λ (r : PlacedAct). IsIn r.0 (typing ∷ up ∷ down ∷ [])) acts
-  pub asks : (own : List PlacedAct) × AllOf IsAskRow own × FinishBehind commands_end typing own (acts_by typing acts)
-  pub nexts : (own : List PlacedAct) × AllOf IsNextAct own × HaltBehind up_end up own (acts_by up acts)
-  pub entries : (es : List Entry) × HaltBehind down_end down (entry_takes down es) (acts_by down acts)
+  pub asks : (own : List PlacedAct) × AllOf IsAskRow own × FinishBehind commands_end typing own acts
+  pub nexts : (own : List PlacedAct) × AllOf IsNextAct own × HaltBehind up_end up own acts
+  pub entries : (es : List Entry) × HaltBehind down_end down (entry_takes down es) acts
 
 -- ---- what a run leaves, by its parts
 

@@ -46,9 +46,11 @@ pub(crate) fn both_lines<U: Link + Send, L: Link + Send, W: Threads + Wait + Syn
     ensures up_seat { KeepsSeat hall.now up_seat.old up_seat.new }
     ensures up { UpDone (origin_at hall.now) result.0 (coming up_reader.old (U.Source.remaining up.old)) (U.Source.remaining up.new) (U.Sink.taken up.old) (U.Sink.taken up.new) up_seat.old up_seat.new }
     ensures up_faults { CountsActivity result.0 (U.Source.faults up.old) (U.Source.faults up.new) }
+    ensures closed { U.Source.closed up.new ≡ true }
     ensures seat { KeepsSeat hall.now seat.old seat.new }
     ensures queue { IsEndOf queue.now feeder.new }
     ensures down { DownDone (origin_at hall.now) result.1 (coming reader.old (L.Source.remaining link.old)) (L.Source.remaining link.new) seat.old seat.new feeder.old.items feeder.new.items }
+    ensures still_open { L.Source.closed link.new ≡ false }
     ensures written { L.Source.taken_beside link.new ≡ L.Source.taken_beside link.old }
     ensures faults { CountsActivity result.1 (L.Source.faults link.old) (L.Source.faults link.new) }
 {
@@ -59,12 +61,14 @@ pub(crate) fn both_lines<U: Link + Send, L: Link + Send, W: Threads + Wait + Syn
             ensures seat { KeepsSeat hall.entry.now up_seat.entry.now up_seat.exit.now }
             ensures up { UpDone (origin_at hall.entry.now) result (coming up_reader.entry.now (U.Source.remaining up.entry.now)) (U.Source.remaining up.exit.now) (U.Sink.taken up.entry.now) (U.Sink.taken up.exit.now) up_seat.entry.now up_seat.exit.now }
             ensures faults { CountsActivity result (U.Source.faults up.entry.now) (U.Source.faults up.exit.now) }
+            ensures closed { U.Source.closed up.exit.now ≡ true }
         { send_up(rt, alloc, hall, up_seat, up_reader, up) },
         &mut || -> Option<PerformError>
             requires { IsStageSeat hall.now seat.now × ((origin_at hall.now).own ≡ who) × (L.Source.closed link.now ≡ false) × MayRead reader.now (L.Source.remaining link.now) × (reader.now.limit ≡ longest_entry) × IsEndOf queue.now feeder.now }
             ensures seat { KeepsSeat hall.entry.now seat.entry.now seat.exit.now }
             ensures queue { IsEndOf queue.entry.now feeder.exit.now }
             ensures down { DownDone (origin_at hall.entry.now) result (coming reader.entry.now (L.Source.remaining link.entry.now)) (L.Source.remaining link.exit.now) seat.entry.now seat.exit.now feeder.entry.now.items feeder.exit.now.items }
+            ensures still_open { L.Source.closed link.exit.now ≡ false }
             ensures written { L.Source.taken_beside link.exit.now ≡ L.Source.taken_beside link.entry.now }
             ensures faults { CountsActivity result (L.Source.faults link.entry.now) (L.Source.faults link.exit.now) }
         { take_down(rt, alloc, hall, seat, who, reader, link, queue, feeder) },
@@ -112,10 +116,11 @@ pub(crate) fn commands_and_lines<
     ensures commands { CommandsDone (origin_at hall.now) name.now who result.0 (coming commands_reader.old (C.remaining commands.old)) (C.remaining commands.new) (O.taken out.old) (O.taken out.new) first_seat.old first_seat.new }
     ensures read_faults { CountsInput result.0 (C.faults commands.old) (C.faults commands.new) }
     ensures write_faults { CountsOutput result.0 (O.faults out.old) (O.faults out.new) }
-    ensures still_open { (C.closed commands.new ≡ false) × (O.closed out.new ≡ false) }
+    ensures still_open { (C.closed commands.new ≡ false) × (O.closed out.new ≡ false) × (L.Source.closed link.new ≡ false) }
     ensures up_seat { KeepsSeat hall.now up_seat.old up_seat.new }
     ensures up { UpDone (origin_at hall.now) result.1.0 (coming up_reader.old (U.Source.remaining up.old)) (U.Source.remaining up.new) (U.Sink.taken up.old) (U.Sink.taken up.new) up_seat.old up_seat.new }
     ensures up_faults { CountsActivity result.1.0 (U.Source.faults up.old) (U.Source.faults up.new) }
+    ensures closed { U.Source.closed up.new ≡ true }
     ensures seat { KeepsSeat hall.now seat.old seat.new }
     ensures queue { IsEndOf queue.now feeder.new }
     ensures down { DownDone (origin_at hall.now) result.1.1 (coming reader.old (L.Source.remaining link.old)) (L.Source.remaining link.new) seat.old seat.new feeder.old.items feeder.new.items }
@@ -150,9 +155,11 @@ pub(crate) fn commands_and_lines<
         ensures up_seat { KeepsSeat hall.entry.now up_seat.entry.now up_seat.exit.now }
         ensures up { UpDone (origin_at hall.entry.now) result.0 (coming up_reader.entry.now (U.Source.remaining up.entry.now)) (U.Source.remaining up.exit.now) (U.Sink.taken up.entry.now) (U.Sink.taken up.exit.now) up_seat.entry.now up_seat.exit.now }
         ensures up_faults { CountsActivity result.0 (U.Source.faults up.entry.now) (U.Source.faults up.exit.now) }
+        ensures closed { U.Source.closed up.exit.now ≡ true }
         ensures seat { KeepsSeat hall.entry.now seat.entry.now seat.exit.now }
         ensures queue { IsEndOf queue.entry.now feeder.exit.now }
         ensures down { DownDone (origin_at hall.entry.now) result.1 (coming reader.entry.now (L.Source.remaining link.entry.now)) (L.Source.remaining link.exit.now) seat.entry.now seat.exit.now feeder.entry.now.items feeder.exit.now.items }
+        ensures still_open { L.Source.closed link.exit.now ≡ false }
         ensures written { L.Source.taken_beside link.exit.now ≡ L.Source.taken_beside link.entry.now }
         ensures faults { CountsActivity result.1 (L.Source.faults link.entry.now) (L.Source.faults link.exit.now) }
     {
@@ -207,10 +214,11 @@ where
     ensures commands { CommandsDone (origin_at hall.now) name.now who result.1.0 (coming commands_reader.old (C.remaining commands.old)) (C.remaining commands.new) (O.taken out.old) (O.taken out.new) first_seat.old first_seat.new }
     ensures read_faults { CountsInput result.1.0 (C.faults commands.old) (C.faults commands.new) }
     ensures write_faults { CountsOutput result.1.0 (O.faults out.old) (O.faults out.new) }
-    ensures still_open { (C.closed commands.new ≡ false) × (O.closed out.new ≡ false) }
+    ensures still_open { (C.closed commands.new ≡ false) × (O.closed out.new ≡ false) × (L.Source.closed link.new ≡ false) }
     ensures up_seat { KeepsSeat hall.now up_seat.old up_seat.new }
     ensures up { UpDone (origin_at hall.now) result.1.1.0 (coming up_reader.old (U.Source.remaining up.old)) (U.Source.remaining up.new) (U.Sink.taken up.old) (U.Sink.taken up.new) up_seat.old up_seat.new }
     ensures up_faults { CountsActivity result.1.1.0 (U.Source.faults up.old) (U.Source.faults up.new) }
+    ensures closed { U.Source.closed up.new ≡ true }
     ensures seat { KeepsSeat hall.now seat.old seat.new }
     ensures queue { IsEndOf queue.now feeder.new × IsEndOf queue.now taker.new }
     ensures down { DownDone (origin_at hall.now) result.1.1.1 (coming reader.old (L.Source.remaining link.old)) (L.Source.remaining link.new) seat.old seat.new feeder.old.items feeder.new.items }
@@ -235,10 +243,11 @@ where
         ensures commands { CommandsDone (origin_at hall.entry.now) name.entry.now who result.0 (coming commands_reader.entry.now (C.remaining commands.entry.now)) (C.remaining commands.exit.now) (O.taken out.entry.now) (O.taken out.exit.now) first_seat.entry.now first_seat.exit.now }
         ensures read_faults { CountsInput result.0 (C.faults commands.entry.now) (C.faults commands.exit.now) }
         ensures write_faults { CountsOutput result.0 (O.faults out.entry.now) (O.faults out.exit.now) }
-        ensures still_open { (C.closed commands.exit.now ≡ false) × (O.closed out.exit.now ≡ false) }
+        ensures still_open { (C.closed commands.exit.now ≡ false) × (O.closed out.exit.now ≡ false) × (L.Source.closed link.exit.now ≡ false) }
         ensures up_seat { KeepsSeat hall.entry.now up_seat.entry.now up_seat.exit.now }
         ensures up { UpDone (origin_at hall.entry.now) result.1.0 (coming up_reader.entry.now (U.Source.remaining up.entry.now)) (U.Source.remaining up.exit.now) (U.Sink.taken up.entry.now) (U.Sink.taken up.exit.now) up_seat.entry.now up_seat.exit.now }
         ensures up_faults { CountsActivity result.1.0 (U.Source.faults up.entry.now) (U.Source.faults up.exit.now) }
+        ensures closed { U.Source.closed up.exit.now ≡ true }
         ensures seat { KeepsSeat hall.entry.now seat.entry.now seat.exit.now }
         ensures queue { IsEndOf queue.entry.now feeder.exit.now }
         ensures down { DownDone (origin_at hall.entry.now) result.1.1 (coming reader.entry.now (L.Source.remaining link.entry.now)) (L.Source.remaining link.exit.now) seat.entry.now seat.exit.now feeder.entry.now.items feeder.exit.now.items }

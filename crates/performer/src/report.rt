@@ -1,5 +1,5 @@
 //! A performer's run: the opening, the four activities, and what they leave.
-ghost use Rattle.std.specs.Prelude.{◌≡◌, ◌≤◌, [], None, Result, false, length, IfOk, IfErr, OnErr};
+ghost use Rattle.std.specs.Prelude.{◌≡◌, ◌≤◌, [], None, Result, true, false, length, IfOk, IfErr, OnErr};
 ghost use Rattle.troop_ports.specs.Bytes.{at_end};
 ghost use Rattle.activities.specs.declared.commands.Flow.{Flow};
 ghost use Rattle.activities.specs.declared.errors.PerformError.{PerformError};
@@ -105,12 +105,14 @@ where
         × TypedAndShared r.stage.staged name.now r.who end r.ends.up r.ends.down (C.remaining commands.old) (C.remaining commands.new) (O.taken out.old) (O.taken out.new)
         × CountsInput end (C.faults commands.old) (C.faults commands.new) × CountsOutput end (O.faults out.old) (O.faults out.new)) }
     ensures counts { IfOk result (λ r. CountsActivity r.ends.up (L.Source.faults up.old) (L.Source.faults up.new) × CountsActivity r.ends.down (L.Source.faults down.old) (L.Source.faults down.new)) }
+    ensures closed { IfOk result (λ _. L.Source.closed up.new ≡ true) }
     ensures ended { IfOk result (λ r. r.driver.life ≡ None) }
     ensures err { IfErr result (λ e. (e.1 ≡ driver) × OpeningFails name.now lang e.0 (L.Source.remaining up.old) (L.Source.remaining up.new) (L.Sink.taken up.old) (L.Sink.taken up.new)
         (L.Sink.taken down.old) (L.Sink.taken down.new)) }
     ensures untouched { OnErr result ((commands.new ≡ commands.old) × (out.new ≡ out.old)) }
     ensures err_counts { IfErr result (λ e. CountsOpening e.0 (L.Source.faults up.old) (L.Source.faults up.new) (L.Source.faults down.old) (L.Source.faults down.new)) }
-    ensures still_open { (C.closed commands.new ≡ false) × (O.closed out.new ≡ false) }
+    ensures still_open { (C.closed commands.new ≡ false) × (O.closed out.new ≡ false) × (L.Source.closed down.new ≡ false) }
+    ensures up_open { OnErr result (L.Source.closed up.new ≡ false) }
 {
     let mut up_reader = LineReader::new(alloc, 1_048_576);
     let placing = match open_up(alloc, &mut up_reader, up, name, lang) {

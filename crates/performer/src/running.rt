@@ -87,7 +87,9 @@ where
     ensures down_written { L.Source.taken_beside down.new ≡ L.Source.taken_beside down.old }
     ensures counts { IfOk result (λ r. CountsInput r.endings.commands (C.faults commands.old) (C.faults commands.new) × CountsOutput r.endings.commands (O.faults out.old) (O.faults out.new)
         × CountsActivity r.endings.up (U.Source.faults up.old) (U.Source.faults up.new) × CountsActivity r.endings.down (L.Source.faults down.old) (L.Source.faults down.new)) }
-    ensures still_open { (C.closed commands.new ≡ false) × (O.closed out.new ≡ false) }
+    ensures still_open { (C.closed commands.new ≡ false) × (O.closed out.new ≡ false) × (L.Source.closed down.new ≡ false) }
+    ensures up_open { OnErr result (U.Source.closed up.new ≡ false) }
+    ensures closed { IfOk result (λ _. U.Source.closed up.new ≡ true) }
     ensures memory { IfErr result (λ d. d ≡ driver) }
     ensures untouched { OnErr result ((up.new ≡ up.old) × (down.new ≡ down.old) × (commands.new ≡ commands.old) × (out.new ≡ out.old)) }
 {

@@ -4,7 +4,7 @@ use Rattle.activities.specs.declared.errors.PerformError.{PerformError}
 use Rattle.activities.specs.Counts.{CountsLink}
 use Rattle.activities.specs.Down.{TookEntry}
 use Rattle.activities.specs.Memory.{origin_at}
-use Rattle.activities.proofs.TookDown.{takes_block, refuses, refusal_counts}
+use Rattle.activities.proofs.TookDown.{takes_block, refuses, refusal_counts, entry_wants}
 use Rattle.activities.proofs.down.take_entry.Goals as goal
 
 pub returns-in-Ok-Take-Ok-clause-took : goal.returns-in-Ok-Take-Ok-clause-took
@@ -27,3 +27,8 @@ returns-in-Ok-Take-Err-clause-took g c =
 pub returns-in-Ok-Take-Err-clause-faults : goal.returns-in-Ok-Take-Err-clause-faults
 returns-in-Ok-Take-Err-clause-faults g c count =
     subst (λ (x : PerformError). CountsLink x count count) (sym c.refused.ensures) (refusal_counts c.args.number c.in-Ok-Take-Err.refusal count)
+
+pub returns-clause-took : goal.returns-clause-took
+returns-clause-took g c =
+    let e = c.in-Err.ensures in
+    entry_wants (origin_at c.args.hall.now) c.args.entry c.args.number c.args.seat.now c.play.new.seat e.memory e.wanting

@@ -1,4 +1,4 @@
-use Rattle.std.proofs.Common.{◌≡◌, ℕ, [], refl, sym, subst, arith}
+use Rattle.std.proofs.Common.{◌≡◌, ℕ, [], inl, refl, sym, subst}
 use Rattle.activities.specs.Counts.{CountsResult}
 use Rattle.activities.proofs.GaveLines.{gave_none}
 use Rattle.activities.proofs.down.take_line.Goals as goal
@@ -13,9 +13,9 @@ pub returns-in-Fault-clause-took : goal.returns-in-Fault-clause-took
 returns-in-Fault-clause-took g c = ([], _, gave_none _, c.in-Fault.ensures.line, refl, refl)
 
 pub returns-in-Memory-clause-took : goal.returns-in-Memory-clause-took
-returns-in-Memory-clause-took g c = ([], _, gave_none _, c.in-Memory.ensures.line, refl, omega arith)
+returns-in-Memory-clause-took g c = let l = rw c.requires.is_open.2 at c.in-Memory.ensures.line in ([], _, gave_none _, (l.0, l.1), refl, inl (refl, l))
 
-pub returns-clause-faults : goal.returns-clause-faults
-returns-clause-faults g c =
+pub returns-in-Ok-clause-faults : goal.returns-in-Ok-clause-faults
+returns-in-Ok-clause-faults g c =
     let before = g.L.Source.faults c.args.link.now in
     subst (λ (n : ℕ). CountsResult c.take_entry.result before n) (sym c.in-Text.ensures.cause) (c.take_entry.ensures.faults before)

@@ -1,4 +1,4 @@
-use Rattle.std.proofs.Common.{[], refl, arith}
+use Rattle.std.proofs.Common.{[], inl, refl}
 use Rattle.activities.proofs.GaveLines.{gave_none}
 use Rattle.activities.proofs.up.read_placing.Goals as goal
 
@@ -12,4 +12,4 @@ pub returns-in-Fault-clause-read : goal.returns-in-Fault-clause-read
 returns-in-Fault-clause-read g c = ([], _, gave_none _, c.in-Fault.ensures.line, refl)
 
 pub returns-in-Memory-clause-read : goal.returns-in-Memory-clause-read
-returns-in-Memory-clause-read g c = ([], _, gave_none _, c.in-Memory.ensures.line, omega arith)
+returns-in-Memory-clause-read g c = let l = rw c.requires.is_open.2 at c.in-Memory.ensures.line in ([], _, gave_none _, (l.0, l.1), inl (refl, l))

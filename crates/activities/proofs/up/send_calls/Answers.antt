@@ -70,4 +70,4 @@ returns-in-Err-clause-sent g c =
     let l = c.count_acts-acts.ensures in
     let up = up_looked (origin_at c.args.hall.now) _ _ _ _ c.args.seat.now c.loop.seat c.count_acts-acts.new.seat _ i.up l.seat.2 l.own l.seat.1.number in
     let e = c.in-Err.ensures in
-    up_starved (origin_at c.args.hall.now) _ _ _ _ _ c.args.seat.now c.count_acts-acts.new.seat c.play.new.seat _ up e.seat.2 e.memory e.seat.1.number (held_bytes c.loop.reader, refl)
+    up_starved (origin_at c.args.hall.now) _ _ _ _ _ c.args.seat.now c.count_acts-acts.new.seat c.play.new.seat _ up e.seat.2 e.memory e.seat.1.number (held_bytes c.loop.reader, refl) e.wanting

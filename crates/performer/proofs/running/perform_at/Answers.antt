@@ -7,7 +7,8 @@ use Rattle.activities.specs.Ending.{DownDone, UpDone}
 use Rattle.activities.specs.Lines.{coming}
 use Rattle.activities.proofs.GaveLines.{fresh}
 use Rattle.performer.specs.Performed.{TookAll, SentAll, TypedAll}
-use Rattle.performer.proofs.TookAll.{Three, three, took_all, sent_all, commands_plain, up_noentry, down_nonext, typed_all, shares}
+use Rattle.performer.proofs.TookAll.{Three, three, took_all, sent_all, commands_plain, up_noentry, down_nonext, typed_all}
+use Rattle.performer.proofs.Shares.{typed_behind, shares}
 use Rattle.performer.proofs.running.perform_at.Goals as goal
 
 pub returns-clause-took : goal.returns-clause-took
@@ -92,7 +93,9 @@ returns-clause-shared g c =
     made (e.up_seat.1.made ∙ c.seat-second.ensures.new.2) (e.seat.1.made ∙ c.seat-third.ensures.new.2) c.close-stage.ensures.settled c.close-stage.ensures.whole in
     let same : oh ≡ origin_of c.args.stage.staged = ap (λ s. origin_of s.staged) c.in-Ok-new.ensures.hall.0 in
     let remaining = g.C.Source.remaining c.all_four-starved.new.commands in
-    let all = typed_all oh acts f c.seat-third.new.first c.args.name.now c.args.who c.all_four-starved.result.1.0 _ _ _ _ e.first_seat.1.number t.begins_f t.own_f e.commands in
+    let behind = typed_behind oh acts f u d c.seat-third.new.first c.seat-second.result c.seat-third.result c.args.name.now c.args.who c.all_four-starved.result.1.0 c.all_four-starved.result.1.1.0
+    c.all_four-starved.result.1.1.1 _ _ _ _ _ _ _ _ _ _ _ _ t e.first_seat.1.number c.seat-second.ensures.new.1 c.seat-third.ensures.new.1 e.commands e.up e.down in
+    let all = typed_all oh acts f c.seat-third.new.first c.args.name.now c.args.who c.all_four-starved.result.1.0 _ _ _ _ e.first_seat.1.number t.begins_f t.own_f e.commands behind in
     let told = g.C.Source.remaining c.args.commands.now in
     let held : coming c.new-reader.result told ≡ told = ap (λ r. coming r told) c.new-reader.ensures ∙ fresh told in (
       f.number,
