@@ -166,6 +166,12 @@ const EVENINGS: &[Evening] = &[
         ..UNPLAYED
     },
     Evening {
+        words: &["perform", "there", "ann", "lines", "--", "cat"],
+        code: 6,
+        err: "troop: net fault\n",
+        ..UNPLAYED
+    },
+    Evening {
         dials: &[2],
         code: 6,
         err: "troop: net fault\n",
@@ -305,7 +311,7 @@ fn down_link<'c>(
     })
 }
 
-// A net of these two links.
+// A net of these two links, at the address `here`.
 fn net<'c>(
     alloc: Global,
     evening: &Evening,
@@ -315,7 +321,8 @@ fn net<'c>(
     let down = down_link(alloc, evening, calls)?;
     let links = vec![in alloc; up, down]?;
     let doors = Vec::<ListDoor<BytesLink>>::new(alloc);
-    Ok(ListNet::new(alloc, doors, links, evening.dials)?)
+    let here = String::from_str(alloc, "here")?;
+    Ok(ListNet::new(alloc, doors, links, evening.dials)?.standing_at(here))
 }
 
 // Whether the evening came to what its row says.

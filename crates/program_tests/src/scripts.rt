@@ -12,6 +12,7 @@ use troop_ports::{BytesLink, BytesSink, BytesSource, ListDoor, ListNet, ListShel
 /// A run's limit and how its streams behave, and then what it comes to.
 #[derive(Clone, Copy)]
 struct Run {
+    script: &'static str,
     limit: u64,
     /// The lengths of the pieces in which the script comes.
     pieces: &'static [u64],
@@ -34,7 +35,41 @@ const SCRIPT: &str = r#"["guest","ann","lines"]
 
 const NOBODY: &str = "{\"no\":\"member\",\"who\":2}\n";
 
+/// Two performers type at once, and are shown while one holds edits back.
+const BUFFER: &str = r#"["join","ann","lines",""]
+["join","bob","lines",""]
+["take",1]
+["take",1]
+["take",2]
+["take",2]
+["edit",1,["a"]]
+["edit",1,[1,"b"]]
+["edit",1,[2,"c"]]
+["edit",2,["z"]]
+["serve",2]
+["take",1]
+["show"]
+["serve",1]
+["take",1]
+["serve",1]
+["take",1]
+["take",2]
+["take",2]
+["take",2]
+"#;
+
+const BUFFER_SHOWN: &str =
+    r#"{"awaits":2,"marks":[[1,3],[2,1]],"name":"ann","taken":3,"text":"abcz","who":1}
+{"lives":[],"who":1}
+{"journal":[],"who":1}
+{"awaits":1,"marks":[[2,1]],"name":"bob","taken":2,"text":"z","who":2}
+{"lives":[],"who":2}
+{"journal":[],"who":2}
+{"entries":3,"marks":[[2,1]],"text":"z"}
+"#;
+
 const DONE: Run = Run {
+    script: SCRIPT,
     limit: 100,
     pieces: &[],
     reads: &[],
@@ -63,7 +98,14 @@ const WRITE_FAULT: Run = Run {
     ..DONE
 };
 
-const RUNS: [Run; 11] = [
+const BUFFER_FAULT: Run = Run {
+    script: BUFFER,
+    limit: 400,
+    room: 1000,
+    ..WRITE_FAULT
+};
+
+const RUNS: [Run; 13] = [
     DONE,
     Run {
         pieces: &[1; 99],
@@ -117,12 +159,23 @@ const RUNS: [Run; 11] = [
         out: "{\"no",
         ..WRITE_FAULT
     },
+    // What is shown is written at once, and so is all that stands at the end.
+    Run {
+        writes: &[1],
+        out: "",
+        ..BUFFER_FAULT
+    },
+    Run {
+        writes: &[2],
+        out: BUFFER_SHOWN,
+        ..BUFFER_FAULT
+    },
 ];
 
 #[test]
 fn limit_and_streams_decide_how_a_run_ends(rt: HostRuntime) -> Result<(), Fail> {
     for run in &RUNS {
-        let mut input = BytesSource::new(rt.alloc(), SCRIPT.as_bytes(), run.pieces, run.reads)?;
+        let mut input = BytesSource::new(rt.alloc(), run.script.as_bytes(), run.pieces, run.reads)?;
         let mut out = BytesSink::new(rt.alloc(), run.room, run.writes)?;
         let mut err = BytesSink::new(rt.alloc(), 100, &[])?;
         let status = replay_upto(rt.alloc(), run.limit, &mut input, &mut out, &mut err);

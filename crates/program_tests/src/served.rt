@@ -12,7 +12,7 @@ use troop_ports::{BytesLink, BytesSink, BytesSource, ListDoor, ListNet, ListShel
 const LINES: &[u8] =
     b"{\"call\":\"join\",\"lang\":\"lines\",\"name\":\"ann\"}\n{\"call\":\"edit\",\"op\":[],\"seen\":0}\n";
 
-/// Words, which calls fail, and then what a server of one door with two such links comes to.
+/// Words, which calls fail, and then what a server of one door with two such links comes to, where the net stands at `here`.
 #[derive(Clone, Copy)]
 struct Evening {
     words: &'static [&'static str],
@@ -111,6 +111,12 @@ const EVENINGS: &[Evening] = &[
         ..NET_FAULT
     },
     Evening {
+        words: &["serve", "there"],
+        retired: 0,
+        shut: 0,
+        ..NET_FAULT
+    },
+    Evening {
         accepts: &[2],
         retired: 1,
         ..NET_FAULT
@@ -190,7 +196,8 @@ fn words_and_faults_decide_how_a_server_ends(rt: HostRuntime) -> Result<(), Fail
         let words = words_of(rt.alloc(), evening.words)?;
         let doors = vec![in rt.alloc(); door(rt.alloc(), evening.accepts)?]?;
         let links = Vec::<BytesLink>::new(rt.alloc());
-        let mut net = ListNet::new(rt.alloc(), doors, links, evening.listens)?;
+        let here = String::from_str(rt.alloc(), "here")?;
+        let mut net = ListNet::new(rt.alloc(), doors, links, evening.listens)?.standing_at(here);
         let mut input = BytesSource::new(rt.alloc(), b"[]\n", &[], &[])?;
         let mut out = BytesSink::new(rt.alloc(), evening.room, evening.writes)?;
         let mut err = BytesSink::new(rt.alloc(), 100, &[])?;

@@ -6,6 +6,7 @@ use Rattle.troop_entry.specs.declared.call.Lang.{Lang}
 use Rattle.troop_entry.specs.declared.entry.Entry.{Entry}
 use Rattle.troop_ports.specs.Doors.{first_of, and_last}
 use Rattle.troop_ports.specs.Faults.{Counted, AddsCount}
+use Rattle.troop_ports.specs.Nets.{Site}
 use Rattle.block_queue.specs.declared.item.Item.{Item}
 use Rattle.child_driver.specs.Drivers.{DriverValue}
 use Rattle.stage_state.specs.declared.played.Origin.{Origin}
@@ -28,7 +29,7 @@ use Rattle.performer.specs.Performed.{TookAndTold, Shares}
 use Rattle.replay_run.specs.Ports.{Port, port_of, IsFaulted}
 use Rattle.troop_main.specs.Words.{Announced}
 use Rattle.troop_main.specs.Serving.{NetPort, net_port_of}
-use Rattle.troop_main.specs.Performing.{IsCalmShelf, PrintsLast, closing_lines, GaveBoth, FailsDial, AreRetired, Scene, HasNoBoot, TellingLinks, Performance, HasNoLinks, IsUnopened, IsPerformance, idle_driver, SaysPerformed}
+use Rattle.troop_main.specs.Performing.{IsCalmShelf, PrintsLast, closing_lines, GaveBoth, FailsDial, AreRetired, Scene, HasNoBoot, TellingLinks, Performance, HasNoLinks, FailedOpening, IsPerformance, idle_driver, SaysPerformed}
 use Rattle.troop_main.proofs.CountsLinks.{counted_first, counted_last, counted_up, counted_down}
 use Rattle.troop_main.proofs.HasPlayedOut.{leave_later, commands_ended}
 
@@ -63,11 +64,12 @@ module _ {L H C : Type 0} (tells : TellingLinks L H C) where
 -- ---- the links
 
 -- both links came back, from what the net's calls say
-pub retired_by : {L : Type 0} (link_faults : L → ℕ) (up up_back down down_back : L) (left0 left1 left2 left3 back0 back1 back2 back3 : Option (List L)) (f0 f1 f2 f3 : ℕ)
-    → GaveBoth up down (net_port_of left0 left1 back0 back1 f0 f1) → left2 ≡ left1 → back2 ≡ and_last back1 up_back → AddsCount (link_faults up_back) f1 f2
+pub retired_by : {L : Type 0} (link_faults : L → ℕ) (up up_back down down_back : L) (asked : List ℕ) (site : Option Site) (left0 left1 left2 left3 back0 back1 back2 back3 : Option (List L)) (f0 f1 f2 f3 : ℕ)
+    → GaveBoth up down (net_port_of asked site left0 left1 back0 back1 f0 f1) → left2 ≡ left1 → back2 ≡ and_last back1 up_back → AddsCount (link_faults up_back) f1 f2
     → left3 ≡ left2 → back3 ≡ and_last back2 down_back → AddsCount (link_faults down_back) f2 f3
-    → AreRetired link_faults up up_back down down_back (net_port_of left0 left3 back0 back3 f0 f3)
-retired_by link_faults up up_back down down_back left0 left1 left2 left3 back0 back1 back2 back3 f0 f1 f2 f3 gave same2 first count2 same3 second count3 = record {
+    → AreRetired link_faults up up_back down down_back (net_port_of asked site left0 left3 back0 back3 f0 f3)
+retired_by link_faults up up_back down down_back asked site left0 left1 left2 left3 back0 back1 back2 back3 f0 f1 f2 f3 gave same2 first count2 same3 second count3 = record {
+  at_site = gave.3;
   were_given = gave.0 ∙ ap (λ l. first_of up (first_of down l)) (sym (same3 ∙ same2));
   came_back = second ∙ ap (λ l. and_last l down_back) (first ∙ ap (λ l. and_last l up_back) gave.1);
   faults = f2;
@@ -102,17 +104,17 @@ unwritten_fault (error.BadPeer side line what) pair front h = tt
 unwritten_fault (error.LongRequest bytes) pair front h = tt
 unwritten_fault error.Memory pair front h = tt
 
-unplaced_fault : (e : PerformError) (number : ℕ) (last : List (List ℕ)) (rest : Option (List ℕ)) → IsUnplaced number last rest e → IsOpeningFault e
-unplaced_fault error.ReadFault number last rest h = h
-unplaced_fault error.WriteFault number last rest h = h
-unplaced_fault error.NetFault number last rest h = tt
-unplaced_fault (error.BadInput line) number last rest h = h
-unplaced_fault error.TooMuch number last rest h = h
-unplaced_fault (error.Refused reply) number last rest h = tt
-unplaced_fault (error.Dropped at) number last rest h = h
-unplaced_fault (error.BadPeer side line what) number last rest h = tt
-unplaced_fault (error.LongRequest bytes) number last rest h = tt
-unplaced_fault error.Memory number last rest h = tt
+unplaced_fault : (e : PerformError) (number : ℕ) (last : List (List ℕ)) (rest remaining : Option (List ℕ)) → IsUnplaced number last rest remaining e → IsOpeningFault e
+unplaced_fault error.ReadFault number last rest remaining h = h
+unplaced_fault error.WriteFault number last rest remaining h = h
+unplaced_fault error.NetFault number last rest remaining h = tt
+unplaced_fault (error.BadInput line) number last rest remaining h = h
+unplaced_fault error.TooMuch number last rest remaining h = h
+unplaced_fault (error.Refused reply) number last rest remaining h = tt
+unplaced_fault (error.Dropped at) number last rest remaining h = h
+unplaced_fault (error.BadPeer side line what) number last rest remaining h = tt
+unplaced_fault (error.LongRequest bytes) number last rest remaining h = tt
+unplaced_fault error.Memory number last rest remaining h = tt
 
 cut_fault : (e : PerformError) (who : ℕ) (front : List ℕ) → IsCutDown who front e → IsOpeningFault e
 cut_fault error.ReadFault who front h = h
@@ -126,9 +128,9 @@ cut_fault (error.BadPeer side line what) who front h = tt
 cut_fault (error.LongRequest bytes) who front h = tt
 cut_fault error.Memory who front h = tt
 
-failed_fault : (e : PerformError) (number : ℕ) (pair : ℕ × Call) (front : List ℕ) (last : List (List ℕ)) (rest : Option (List ℕ)) → FailedCall number pair front last rest e → IsOpeningFault e
-failed_fault e number pair front last rest (inl h) = unwritten_fault e pair front h.0
-failed_fault e number pair front last rest (inr h) = unplaced_fault e number last rest h.1
+failed_fault : (e : PerformError) (number : ℕ) (pair : ℕ × Call) (front : List ℕ) (last : List (List ℕ)) (rest remaining : Option (List ℕ)) → FailedCall number pair front last rest remaining e → IsOpeningFault e
+failed_fault e number pair front last rest remaining (inl h) = unwritten_fault e pair front h.0
+failed_fault e number pair front last rest remaining (inr h) = unplaced_fault e number last rest remaining h.1
 
 wrote_fault : (e : PerformError) (who : ℕ) (before now : Option (List ℕ)) → (WroteDown who before now (Err e) ⊎ (WroteDown who before now (Ok tt) × (e ≡ error.Memory))) → IsOpeningFault e
 wrote_fault e who before now (inl h) = cut_fault e who h.0 h.2
@@ -138,7 +140,7 @@ opening_fault : (e : PerformError) (name : List ℕ) (lang : Lang) (told remaini
     → OpeningFails name lang e told remaining before now down_before down_now → IsOpeningFault e
 opening_fault e name lang told remaining before now down_before down_now (inl h) =
     let sent = h.0 in
-    failed_fault e 1 (join_pair name lang) sent.0 sent.1 sent.2 sent.6
+    failed_fault e 1 (join_pair name lang) sent.0 sent.1 sent.2 remaining sent.6
 opening_fault e name lang told remaining before now down_before down_now (inr h) = wrote_fault e h.0.who down_before down_now h.3
 
 link_counted : (up up' down down' before mid now : ℕ) → CountsOpening error.NetFault up up' down down' → AddsCount up' before mid → AddsCount down' mid now → Counted before now
@@ -146,11 +148,11 @@ link_counted up up' down down' before mid now (inl h) first second = counted_up 
 link_counted up up' down down' before mid now (inr h) first second = counted_down down up' down' before mid now h.1 first second
 
 module _ {L H C : Type 0} (tells : TellingLinks L H C) where
-  fault_of : (who : Announced) (cause : PerformError) (s : Scene L H) → IsUnopened tells who cause s → IsOpeningFault cause
+  fault_of : (who : Announced) (cause : PerformError) (s : Scene L H) → FailedOpening tells who cause s → IsOpeningFault cause
   fault_of who cause s h = opening_fault cause who.name who.lang _ _ _ _ _ _ h.fails
 
   -- the opening failed
-  pub unopened : (who : Announced) (cause : PerformError) (s : Scene L H) → IsUnopened tells who cause s → SaysPerformed tells who (Some cause) s
+  pub unopened : (who : Announced) (cause : PerformError) (s : Scene L H) → FailedOpening tells who cause s → SaysPerformed tells who (Some cause) s
   unopened who error.ReadFault s h = absurd (fault_of who error.ReadFault s h)
   unopened who error.WriteFault s h = absurd (fault_of who error.WriteFault s h)
   unopened who error.NetFault s h = (link_counted _ _ _ _ _ _ _ h.counts h.retired.up_count h.retired.down_count, inr (inl h))
@@ -184,31 +186,31 @@ no_error None None (Some d) starved last h = absurd (cc)
 no_error None None None true last h = absurd (cc)
 no_error None None None false last h = (refl, refl, refl, sym h)
 
-up_fault : (e : PerformError) (o : Origin) (seen : List PlacedAct) (number : ℕ) (lost : List (ℕ × Call)) (front : List ℕ) (last : List (List ℕ)) (rest : Option (List ℕ)) (end : Option PerformError)
-    → end ≡ Some e → UpEnds o seen number lost front last rest end → IsOpeningFault e
-up_fault e o seen number lost front last rest None is h = absurd (cc)
-up_fault e o seen number lost front last rest (Some x) is (inl h) = let same : e ≡ error.Memory = cc (h.3) in subst IsOpeningFault (sym same) tt
-up_fault e o seen number lost front last rest (Some x) is (inr h) =
-    let same : x ≡ e = cc in subst IsOpeningFault same (failed_fault x number h.0 front last rest h.2)
+up_fault : (e : PerformError) (o : Origin) (seen : List PlacedAct) (number : ℕ) (lost : List (ℕ × Call)) (front : List ℕ) (last : List (List ℕ)) (rest remaining : Option (List ℕ)) (end : Option PerformError)
+    → end ≡ Some e → UpEnds o seen number lost front last rest remaining end → IsOpeningFault e
+up_fault e o seen number lost front last rest remaining None is h = absurd (cc)
+up_fault e o seen number lost front last rest remaining (Some x) is (inl h) = let same : e ≡ error.Memory = cc (h.3) in subst IsOpeningFault (sym same) tt
+up_fault e o seen number lost front last rest remaining (Some x) is (inr h) =
+    let same : x ≡ e = cc in subst IsOpeningFault same (failed_fault x number h.0 front last rest remaining h.2)
 
 -- an error that the down line can't have
 abbrev IsNoDownFault : PerformError → Type 0
-IsNoDownFault e = (o : Origin) (seen : List PlacedAct) (given : List (List ℕ)) (entries : List Entry) (last : List (List ℕ)) (rest : Option (List ℕ)) → DownEnds o seen given entries last rest (Some e) → ⊥
+IsNoDownFault e = (o : Origin) (seen : List PlacedAct) (given : List (List ℕ)) (entries : List Entry) (last : List (List ℕ)) (rest remaining : Option (List ℕ)) → DownEnds o seen given entries last rest remaining (Some e) → ⊥
 
 no_down_read : IsNoDownFault error.ReadFault
-no_down_read o seen given entries last rest (inl h) = h
-no_down_read o seen given entries last rest (inr h) = h
+no_down_read o seen given entries last rest remaining (inl h) = h
+no_down_read o seen given entries last rest remaining (inr h) = h
 
 no_down_write : IsNoDownFault error.WriteFault
-no_down_write o seen given entries last rest (inl h) = h
-no_down_write o seen given entries last rest (inr h) = h
+no_down_write o seen given entries last rest remaining (inl h) = h
+no_down_write o seen given entries last rest remaining (inr h) = h
 
-not_net : (end : Result Flow PerformError) (o : Origin) (number size : ℕ) (name : List ℕ) (who : ℕ) (seen : List PlacedAct) (last : List (List ℕ)) (front : List ℕ) (rest : Option (List ℕ))
-    → error_of end ≡ Some error.NetFault → CommandsEnd o number size name who seen last front rest end → ⊥
-not_net (Ok f) o number size name who seen last front rest is h = cc
-not_net (Err e) o number size name who seen last front rest is h =
+not_net : (end : Result Flow PerformError) (o : Origin) (number size : ℕ) (name : List ℕ) (who : ℕ) (seen : List PlacedAct) (last : List (List ℕ)) (front : List ℕ) (rest remaining : Option (List ℕ))
+    → error_of end ≡ Some error.NetFault → CommandsEnd o number size name who seen last front rest remaining end → ⊥
+not_net (Ok f) o number size name who seen last front rest remaining is h = cc
+not_net (Err e) o number size name who seen last front rest remaining is h =
     let same : e ≡ error.NetFault = cc in
-    subst (λ (x : PerformError). CommandsEnd o number size name who seen last front rest (Err x)) same h
+    subst (λ (x : PerformError). CommandsEnd o number size name who seen last front rest remaining (Err x)) same h
 
 counted_read : (end : Result Flow PerformError) (before now : ℕ) → error_of end ≡ Some error.ReadFault → CountsInput end before now → Counted before now
 counted_read (Ok f) before now is h = absurd (cc)
@@ -262,13 +264,13 @@ module _ {L H C : Type 0} (tells : TellingLinks L H C) where
   whose_of who e s p h = whose e p.ends.commands p.ends.up p.ends.down p.ends.starved p.last h.end_is
 
   fault_up : (who : Announced) (e : PerformError) (s : Scene L H) (p : Performance L) → IsPerformance tells who (Some e) s p → p.ends.up ≡ Some e → IsOpeningFault e
-  fault_up who e s p h is = let sent = h.sent.4 in up_fault e (origin_of p.staged) sent.seen _ sent.lost sent.front sent.last sent.rest p.ends.up is sent.ends
+  fault_up who e s p h is = let sent = h.sent.4 in up_fault e (origin_of p.staged) sent.seen _ sent.lost sent.front sent.last sent.rest (tells.remaining p.up_back) p.ends.up is sent.ends
 
   fault_down : (who : Announced) (e : PerformError) (s : Scene L H) (p : Performance L) → IsPerformance tells who (Some e) s p → IsNoDownFault e → p.ends.down ≡ Some e → ⊥
   fault_down who e s p h never is =
       let took = h.took.0 in
-      never (origin_of p.staged) took.seen took.given took.entries took.last took.rest
-      (subst (λ (x : Option PerformError). DownEnds (origin_of p.staged) took.seen took.given took.entries took.last took.rest x) is took.ends)
+      never (origin_of p.staged) took.seen took.given took.entries took.last took.rest (tells.remaining p.down_back)
+      (subst (λ (x : Option PerformError). DownEnds (origin_of p.staged) took.seen took.given took.entries took.last took.rest (tells.remaining p.down_back) x) is took.ends)
 
   abbrev prints_by : (who : Announced) (s : Scene L H) (p : Performance L) → Option PerformError → Type 0
   prints_by who s p last = PrintsLast last (closing_lines who.name p.number p.staged p.notes) (port_of p.printed s.out.after p.print_faults s.out.faults_after)
@@ -303,7 +305,7 @@ module _ {L H C : Type 0} (tells : TellingLinks L H C) where
       → Counted s.net.faults_before s.net.faults_after
   net_by who s p h (inl c) =
       let t = h.typed.4 in
-      absurd (not_net p.commands (origin_of p.staged) (number_behind 1 t.given) (lines_size t.given) who.name p.number t.seen t.last t.front t.rest (sym h.commands_are ∙ c) t.ends)
+      absurd (not_net p.commands (origin_of p.staged) (number_behind 1 t.given) (lines_size t.given) who.name p.number t.seen t.last t.front t.rest s.input.after (sym h.commands_are ∙ c) t.ends)
   net_by who s p h (inr (inl u)) =
       counted_up _ _ _ _ _ _ (counted_link p.ends.up (tells.link_faults p.up) (tells.link_faults p.up_back) u h.up_faults) h.retired.up_count h.retired.down_count
   net_by who s p h (inr (inr (inl d))) =
@@ -318,8 +320,8 @@ module _ {L H C : Type 0} (tells : TellingLinks L H C) where
       let commands : error_of p.commands ≡ None = sym h.commands_are ∙ none.0 in
       let printed = prints_as who None s p h None none.3 in
       let took = h.took.0 in
-      let left : DownEnds o took.seen took.given took.entries took.last took.rest None =
-      subst (λ (x : Option PerformError). DownEnds o took.seen took.given took.entries took.last took.rest x) none.2 took.ends in
+      let left : DownEnds o took.seen took.given took.entries took.last took.rest (tells.remaining p.down_back) None =
+      subst (λ (x : Option PerformError). DownEnds o took.seen took.given took.entries took.last took.rest (tells.remaining p.down_back) x) none.2 took.ends in
       let sent = leave_later o took.seen p.staged.acts took.earlier left.3 in
       let shared : Shares p.staged.acts p.commands None None h.typed.0 h.typed.1 h.typed.2 =
       subst (λ (x : Option PerformError × Option PerformError). Shares p.staged.acts p.commands x.0 x.1 h.typed.0 h.typed.1 h.typed.2) (λ i. (none.1 i, none.2 i)) h.typed.3 in (

@@ -1,13 +1,14 @@
 -- What a run of `serve` says, by its outcome.
-use Rattle.std.proofs.Common.{◌≡◌, ◌≢◌, ℕ, List, length, take, drop, Option, ap, sym, subst, ◌∙◌, inr, arith}
+use Rattle.std.proofs.Common.{◌≡◌, ◌≢◌, ℕ, List, length, take, drop, Option, true, ap, sym, subst, ◌∙◌, inl, inr, arith}
 use Rattle.std.proofs.lemmas.List.{take-append-drop}
 use Rattle.troop_entry.specs.declared.row.Row.{Row}
 use Rattle.log_model.specs.Legal.{IsLegal}
 use Rattle.troop_ports.specs.Faults.{Counted, AddsCount}
 use Rattle.troop_ports.specs.Bytes.{at_end}
 use Rattle.troop_ports.specs.Doors.{first_of, and_last}
+use Rattle.troop_ports.specs.Nets.{Site, is_at}
 use Rattle.server_crew.specs.Accepting.{HasEnough, IsWithinAsked}
-use Rattle.server_crew.specs.Crews.{IsRun}
+use Rattle.server_crew.specs.Crews.{IsRun, HasWanted}
 use Rattle.replay_run.specs.declared.outcome.Outcome.{Outcome}
 use Rattle.replay_run.specs.declared.outcome.Outcome.TheVariants as outcome
 use Rattle.replay_run.specs.Outcome.{code_of}
@@ -29,7 +30,7 @@ counted_of_door given count before now fault adds =
 pub closed : {L D : Type 0} (tells : Telling L D) (sessions : Option ℕ) (o : Outcome) (log : List Row) (net : NetPort D) (out : Port) → EndsServe o log out → HasClosed tells sessions log net → SaysServed tells sessions o net out
 closed tells sessions outcome.Done log net out ends served = (ends.0, log, served, ends.1)
 closed tells sessions outcome.Usage log net out ends served = absurd ends
-closed tells sessions outcome.Memory log net out ends served = (ends.0, (served.given, served.shut, served.is_shut), ends.1)
+closed tells sessions outcome.Memory log net out ends served = (ends.0, inr (log, served), ends.1)
 closed tells sessions outcome.ReadFault log net out ends served = absurd ends
 closed tells sessions outcome.WriteFault log net out ends served = (ends.0, log, served, ends.1)
 closed tells sessions outcome.NetFault log net out ends served = absurd ends
@@ -51,9 +52,10 @@ pub not_usage : {L D : Type 0} (tells : Telling L D) (sessions : Option ℕ) (co
 not_usage tells sessions code net out err run = not_usage_by tells sessions run.outcome code net out run.says run.code_is
 
 -- a door that was given and came back, from what the net's calls say
-pub shut_by : {L D : Type 0} (tells : Telling L D) (given shut : D) (doors0 doors1 doors2 shut0 shut1 shut2 : Option (List D)) (f0 f1 f2 : ℕ) → doors0 ≡ first_of given doors1 → f1 ≡ f0 → shut1 ≡ shut0
-    → doors2 ≡ doors1 → shut2 ≡ and_last shut1 shut → AddsCount (tells.door_faults shut) f1 f2 → IsShut tells given shut (net_port_of doors0 doors2 shut0 shut2 f0 f2)
-shut_by tells given shut doors0 doors1 doors2 shut0 shut1 shut2 f0 f1 f2 gave same_count same_shut same_doors back adds = record {
+pub shut_by : {L D : Type 0} (tells : Telling L D) (given shut : D) (asked : List ℕ) (site : Option Site) (doors0 doors1 doors2 shut0 shut1 shut2 : Option (List D)) (f0 f1 f2 : ℕ) → is_at site asked ≡ true → doors0 ≡ first_of given doors1 → f1 ≡ f0 → shut1 ≡ shut0
+    → doors2 ≡ doors1 → shut2 ≡ and_last shut1 shut → AddsCount (tells.door_faults shut) f1 f2 → IsShut tells given shut (net_port_of asked site doors0 doors2 shut0 shut2 f0 f2)
+shut_by tells given shut asked site doors0 doors1 doors2 shut0 shut1 shut2 f0 f1 f2 there gave same_count same_shut same_doors back adds = record {
+  at_site = there;
   was_given = gave ∙ ap (first_of given) (sym same_doors);
   came_back = back ∙ ap (λ l. and_last l shut) same_shut;
   count = subst (λ f. AddsCount (tells.door_faults shut) f f2) same_count adds;
@@ -69,6 +71,11 @@ broken tells sessions given shut net out back calm idle fault (taken, log, legal
   counted_of_door (tells.door_faults given) (tells.door_faults shut) net.faults_before net.faults_after fault back.count,
   inr (record { given = given; shut = shut; taken = taken; log = log; is_shut = back; served = record { legal = legal; run = run }; within = within; fault = fault }),
 )
+
+-- a server for which memory was wanting
+pub short_of : {L D : Type 0} (tells : Telling L D) (sessions : Option ℕ) (given shut : D) (net : NetPort D) (out : Port) → IsShut tells given shut net → IsCalm out → IsUntouched out
+    → HasWanted sessions (tells.links given) (tells.links shut) (tells.retired given) (tells.retired shut) (tells.places given) (tells.places shut) (tells.door_faults given) (tells.door_faults shut) → SaysServed tells sessions outcome.Memory net out
+short_of tells sessions given shut net out back calm idle wanted = (calm, inl (record { given = given; shut = shut; is_shut = back; wanted = wanted }), idle)
 
 -- a server that ended as it was asked to
 pub ended : {L D : Type 0} (tells : Telling L D) (sessions : Option ℕ) (given shut : D) (log : List Row) (net : NetPort D) → IsShut tells given shut net → tells.door_faults shut ≡ tells.door_faults given → IsLegal log

@@ -5,6 +5,7 @@ use Rattle.troop_entry.specs.declared.note.Note.{Note}
 use Rattle.troop_ports.specs.Bytes.{at_end}
 use Rattle.troop_ports.specs.Doors.{first_of, and_last}
 use Rattle.troop_ports.specs.Faults.{Counted, AddsCount}
+use Rattle.troop_ports.specs.Nets.{Site, asked_at}
 use Rattle.troop_ports.specs.Shelves.{File, bytes_under}
 use Rattle.wire_print.specs.Printed.{printed_line, journal_data}
 use Rattle.block_queue.specs.declared.item.Item.{Item}
@@ -23,7 +24,7 @@ use Rattle.performer.specs.Opening.{down_line, OpeningFails, CountsOpening}
 use Rattle.performer.specs.Performed.{SentBehindJoin, IsPlayedBy, TookAndTold, TypedAndShared}
 use Rattle.replay_run.specs.Ports.{Port, port_of, IsCalm, IsFaulted, Took, TookPrefix}
 use Rattle.troop_main.specs.Words.{Announced}
-use Rattle.troop_main.specs.Serving.{IsUntouched, NetPort, GaveNone}
+use Rattle.troop_main.specs.Serving.{IsUntouched, NetPort, IsAtSite, GaveNone}
 use Rattle.troop_main.specs.Reports.{ReportsEnd}
 
 -- ---- The boot text.
@@ -90,14 +91,20 @@ PrintsLast (Some error.Memory) lines out = IsCalm out × IsUntouched out
 
 -- ---- Links.
 
+-- this address was asked for, and no other; or none was
+abbrev pub AsksOnly : List ℕ → Option Site → Option Site → Type 0
+AsksOnly addr before after = (after ≡ before) ⊎ (after ≡ asked_at addr before)
+
 module _ {L : Type 0} where
-  -- the net gave both links, the up link first, and else is as it was
+  -- the net gave both links to the address that was asked for, the up link first, and else is as it was
   abbrev pub GaveBoth : L → L → NetPort L → Type 0
-  GaveBoth up down net = (net.left_before ≡ first_of up (first_of down net.left_after)) × (net.back_after ≡ net.back_before) × (net.faults_after ≡ net.faults_before)
+  GaveBoth up down net =
+      (net.left_before ≡ first_of up (first_of down net.left_after)) × (net.back_after ≡ net.back_before) × (net.faults_after ≡ net.faults_before) × IsAtSite net
 
 module _ {L : Type 0} (link_faults : L → ℕ) where
-  -- the net gave this link, which came back as it was, since the net counted a fault at the next one
+  -- the net gave this link to the address that was asked for, and it came back as it was, since the net counted a fault at the next one
   pub record GaveOne (net : NetPort L) : Type 0 where
+    pub at_site : IsAtSite net
     pub link : L
     pub was_given : net.left_before ≡ first_of link net.left_after
     pub came_back : net.back_after ≡ and_last net.back_before link
@@ -109,8 +116,9 @@ module _ {L : Type 0} (link_faults : L → ℕ) where
   abbrev pub FailsDial : NetPort L → Type 0
   FailsDial net = GaveNone net ⊎ GaveOne net
 
-  -- the net gave both links, and has both back, the up link first; its count of faults rose by theirs, and by no more
+  -- the net gave both links to the address that was asked for, and has both back, the up link first; its count of faults rose by theirs, and by no more
   pub record AreRetired (up up_back down down_back : L) (net : NetPort L) : Type 0 where
+    pub at_site : IsAtSite net
     pub were_given : net.left_before ≡ first_of up (first_of down net.left_after)
     pub came_back : net.back_after ≡ and_last (and_last net.back_before up_back) down_back
     pub faults : ℕ
@@ -181,7 +189,7 @@ module _ {L H C : Type 0} (tells : TellingLinks L H C) where
   HasNoLinks who s = ((boot : List ℕ) × IsBoot who.boot s.shelf boot) × FailsDial tells.link_faults s.net × IsUnplayed s
 
   -- the opening failed over both links, by this cause
-  pub record IsUnopened (who : Announced) (cause : PerformError) (s : Scene L H) : Type 0 where
+  pub record FailedOpening (who : Announced) (cause : PerformError) (s : Scene L H) : Type 0 where
     pub booted : (boot : List ℕ) × IsBoot who.boot s.shelf boot
     pub unplayed : IsUnplayed s
     pub up : L
@@ -225,15 +233,15 @@ module _ {L H C : Type 0} (tells : TellingLinks L H C) where
   SaysPerformed who (Some error.ReadFault) s = HasNoBoot who error.ReadFault s ⊎ (IsFaulted s.input × HasPlayed who (Some error.ReadFault) s)
   SaysPerformed who (Some error.WriteFault) s = IsFaulted s.out × HasPlayed who (Some error.WriteFault) s
   SaysPerformed who (Some error.NetFault) s =
-      Counted s.net.faults_before s.net.faults_after × (HasNoLinks who s ⊎ (IsUnopened who error.NetFault s ⊎ HasPlayed who (Some error.NetFault) s))
+      Counted s.net.faults_before s.net.faults_after × (HasNoLinks who s ⊎ (FailedOpening who error.NetFault s ⊎ HasPlayed who (Some error.NetFault) s))
   SaysPerformed who (Some (error.BadInput line)) s = HasPlayed who (Some (error.BadInput line)) s
   SaysPerformed who (Some error.TooMuch) s = HasNoBoot who error.TooMuch s ⊎ HasPlayed who (Some error.TooMuch) s
-  SaysPerformed who (Some (error.Refused reply)) s = IsUnopened who (error.Refused reply) s ⊎ HasPlayed who (Some (error.Refused reply)) s
+  SaysPerformed who (Some (error.Refused reply)) s = FailedOpening who (error.Refused reply) s ⊎ HasPlayed who (Some (error.Refused reply)) s
   SaysPerformed who (Some (error.Dropped at)) s = HasPlayed who (Some (error.Dropped at)) s
-  SaysPerformed who (Some (error.BadPeer side line what)) s = IsUnopened who (error.BadPeer side line what) s ⊎ HasPlayed who (Some (error.BadPeer side line what)) s
-  SaysPerformed who (Some (error.LongRequest bytes)) s = IsUnopened who (error.LongRequest bytes) s ⊎ HasPlayed who (Some (error.LongRequest bytes)) s
+  SaysPerformed who (Some (error.BadPeer side line what)) s = FailedOpening who (error.BadPeer side line what) s ⊎ HasPlayed who (Some (error.BadPeer side line what)) s
+  SaysPerformed who (Some (error.LongRequest bytes)) s = FailedOpening who (error.LongRequest bytes) s ⊎ HasPlayed who (Some (error.LongRequest bytes)) s
   SaysPerformed who (Some error.Memory) s =
-      (IsCalmShelf s.shelf × IsUndialled s × IsUnplayed s) ⊎ (IsUnopened who error.Memory s ⊎ HasPlayed who (Some error.Memory) s)
+      (IsCalmShelf s.shelf × IsUndialled s × IsUnplayed s) ⊎ (FailedOpening who error.Memory s ⊎ HasPlayed who (Some error.Memory) s)
 
   -- a run of `perform` that ended with this status
   pub record Performs (who : Announced) (code : ℕ) (s : Scene L H) (err : Port) : Type 0 where

@@ -3,9 +3,10 @@ ghost use Rattle.std.specs.Prelude.{◌≡◌, ◌+◌, Option, None, false, Mat
 ghost use Rattle.activities.specs.declared.errors.PerformError.{PerformError};
 ghost use Rattle.performer.specs.Ends.{error_or, first_error};
 ghost use Rattle.replay_run.specs.Ports.{port_of};
+ghost use Rattle.troop_ports.specs.Nets.{asked_at};
 ghost use Rattle.troop_main.specs.Serving.{net_port_of};
 ghost use Rattle.troop_main.specs.Words.{IsName, announced};
-ghost use Rattle.troop_main.specs.Performing.{shelf_port_of, IsBoot, FailsBoot, PrintsLast, closing_lines, GaveBoth, FailsDial, SaysPerformed, Performs};
+ghost use Rattle.troop_main.specs.Performing.{shelf_port_of, AsksOnly, IsBoot, FailsBoot, PrintsLast, closing_lines, GaveBoth, FailsDial, SaysPerformed, Performs};
 
 use crate::billing::Billing;
 use crate::reports::report_end;
@@ -61,16 +62,18 @@ where
           input = port_of (I.remaining input.old) (I.remaining input.new) (I.faults input.old) (I.faults input.new);
           out = port_of (O.taken out.old) (O.taken out.new) (O.faults out.old) (O.faults out.new);
           shelf = shelf_port_of (S.files shelf.old) (S.faults shelf.old) (S.faults shelf.new);
-          net = net_port_of (N.links net.old) (N.links net.new) (N.retired net.old) (N.retired net.new) (N.faults net.old) (N.faults net.new);
+          net = net_port_of addr.now (N.site net.old) (N.links net.old) (N.links net.new) (N.retired net.old) (N.retired net.new) (N.faults net.old) (N.faults net.new);
           hatch_before = hatch;
           hatch_after = result.1;
         })
         (port_of (E.taken err.old) (E.taken err.new) (E.faults err.old) (E.faults err.new)) }
+    ensures site { AsksOnly addr.now (N.site net.old) (N.site net.new) }
     ensures files { S.files shelf.new ≡ S.files shelf.old }
     ensures doors { N.doors net.new ≡ N.doors net.old }
     ensures shut_doors { N.shut_doors net.new ≡ N.shut_doors net.old }
     ensures places { N.places net.new ≡ N.places net.old }
     ensures door_places { N.door_places net.new ≡ N.door_places net.old }
+    ensures still_open { (I.closed input.new ≡ false) × (O.closed out.new ≡ false) × (E.closed err.new ≡ false) }
 {
     let (end, hatch) = run(rt, alloc, addr, billing, input, out, net, hatch, shelf);
     (report_end(alloc, end, err), hatch)
@@ -106,15 +109,17 @@ where
           input = port_of (I.remaining input.old) (I.remaining input.new) (I.faults input.old) (I.faults input.new);
           out = port_of (O.taken out.old) (O.taken out.new) (O.faults out.old) (O.faults out.new);
           shelf = shelf_port_of (S.files shelf.old) (S.faults shelf.old) (S.faults shelf.new);
-          net = net_port_of (N.links net.old) (N.links net.new) (N.retired net.old) (N.retired net.new) (N.faults net.old) (N.faults net.new);
+          net = net_port_of addr.now (N.site net.old) (N.links net.old) (N.links net.new) (N.retired net.old) (N.retired net.new) (N.faults net.old) (N.faults net.new);
           hatch_before = hatch;
           hatch_after = result.1;
         }) }
+    ensures site { AsksOnly addr.now (N.site net.old) (N.site net.new) }
     ensures files { S.files shelf.new ≡ S.files shelf.old }
     ensures doors { N.doors net.new ≡ N.doors net.old }
     ensures shut_doors { N.shut_doors net.new ≡ N.shut_doors net.old }
     ensures places { N.places net.new ≡ N.places net.old }
     ensures door_places { N.door_places net.new ≡ N.door_places net.old }
+    ensures still_open { (I.closed input.new ≡ false) × (O.closed out.new ≡ false) }
 {
     let boot = match fetch_boot(alloc, billing.boot, shelf) {
         Ok(boot) => boot,
@@ -169,8 +174,9 @@ fn fetch_boot<S: Shelf>(
 
 // Dials the up link and the down link. Where the second can't be had, the first goes back.
 fn dial_both<N: Net>(addr: &str, net: &mut N) -> Option<(N::L, N::L)>
-    ensures links { MatchOption result (FailsDial N.L.Source.faults (net_port_of (N.links net.old) (N.links net.new) (N.retired net.old) (N.retired net.new) (N.faults net.old) (N.faults net.new)))
-        (λ both. GaveBoth both.0 both.1 (net_port_of (N.links net.old) (N.links net.new) (N.retired net.old) (N.retired net.new) (N.faults net.old) (N.faults net.new))) }
+    ensures links { MatchOption result (FailsDial N.L.Source.faults (net_port_of addr.now (N.site net.old) (N.links net.old) (N.links net.new) (N.retired net.old) (N.retired net.new) (N.faults net.old) (N.faults net.new)))
+        (λ both. GaveBoth both.0 both.1 (net_port_of addr.now (N.site net.old) (N.links net.old) (N.links net.new) (N.retired net.old) (N.retired net.new) (N.faults net.old) (N.faults net.new))) }
+    ensures site { N.site net.new ≡ asked_at addr.now (N.site net.old) }
     ensures are_open { IfSome result (λ both. (N.L.Source.closed both.0 ≡ false) × (N.L.Source.closed both.1 ≡ false)) }
     ensures places { MatchOption result (N.places net.new ≡ N.places net.old) (λ both. N.places net.new ≡ N.places net.old + 2) }
     ensures doors { N.doors net.new ≡ N.doors net.old }
@@ -202,6 +208,7 @@ fn print_report<H: Hatch, O: Sink>(
     ensures printed { (last : Option PerformError) × (result.0 ≡ error_or (first_error report.ends) last)
         × PrintsLast last (closing_lines name.now report.who report.stage.staged report.driver.notes) (port_of (O.taken out.old) (O.taken out.new) (O.faults out.old) (O.faults out.new)) }
     ensures hatch { result.1 ≡ report.driver.hatch }
+    ensures still_open { O.closed out.new ≡ false }
 {
     let end = report.end();
     let last = print_last(
@@ -226,7 +233,8 @@ fn print_last<O: Sink>(
     out: &mut O,
 ) -> Option<PerformError>
     requires { O.closed out.old ≡ false }
-    ensures { PrintsLast result (closing_lines name.now who stage.now.staged notes.now) (port_of (O.taken out.old) (O.taken out.new) (O.faults out.old) (O.faults out.new)) }
+    ensures prints { PrintsLast result (closing_lines name.now who stage.now.staged notes.now) (port_of (O.taken out.old) (O.taken out.new) (O.faults out.old) (O.faults out.new)) }
+    ensures still_open { O.closed out.new ≡ false }
 {
     let Ok(lines) = closing_lines(alloc, name, who, stage, notes) else {
         return Some(PerformError::Memory);

@@ -23,7 +23,8 @@ const LONG_REQUEST: u8 = 11;
 /// that of want of memory.
 pub fn report_end<E: Sink>(alloc: Global, end: Option<PerformError>, err: &mut E) -> Status
     requires { E.closed err.old ≡ false }
-    ensures { ReportsEnd end result.code (port_of (E.taken err.old) (E.taken err.new) (E.faults err.old) (E.faults err.new)) }
+    ensures ends { ReportsEnd end result.code (port_of (E.taken err.old) (E.taken err.new) (E.faults err.old) (E.faults err.new)) }
+    ensures still_open { E.closed err.new ≡ false }
 {
     match end {
         None => Outcome::Done.report(err),
@@ -34,7 +35,8 @@ pub fn report_end<E: Sink>(alloc: Global, end: Option<PerformError>, err: &mut E
 // Writes the line of an error.
 fn report_error<E: Sink>(alloc: Global, error: PerformError, err: &mut E) -> Status
     requires { E.closed err.old ≡ false }
-    ensures { ReportsEnd (Some error) result.code (port_of (E.taken err.old) (E.taken err.new) (E.faults err.old) (E.faults err.new)) }
+    ensures ends { ReportsEnd (Some error) result.code (port_of (E.taken err.old) (E.taken err.new) (E.faults err.old) (E.faults err.new)) }
+    ensures still_open { E.closed err.new ≡ false }
 {
     match error {
         PerformError::ReadFault => Outcome::ReadFault.report(err),
@@ -62,7 +64,8 @@ fn report_error<E: Sink>(alloc: Global, error: PerformError, err: &mut E) -> Sta
 // Writes the line of a refusal, if there is memory for it.
 fn report_refusal<E: Sink>(alloc: Global, reply: WireReply, err: &mut E) -> Status
     requires { E.closed err.old ≡ false }
-    ensures { ReportsEnd (Some (PerformError.Refused reply)) result.code (port_of (E.taken err.old) (E.taken err.new) (E.faults err.old) (E.faults err.new)) }
+    ensures ends { ReportsEnd (Some (PerformError.Refused reply)) result.code (port_of (E.taken err.old) (E.taken err.new) (E.faults err.old) (E.faults err.new)) }
+    ensures still_open { E.closed err.new ≡ false }
 {
     let Ok(line) = print_reply(alloc, &reply) else {
         return Outcome::Memory.report(err);

@@ -1,5 +1,6 @@
 //! The top call.
 ghost use Rattle.std.specs.Prelude.{◌≡◌, ◌≤◌, ◌↔◌, ℕ, List, Option, Some, None, true, false, map, string_bytes};
+ghost use Rattle.troop_ports.specs.Nets.{asked_at};
 ghost use Rattle.replay_run.specs.Ports.{port_of, Reported};
 ghost use Rattle.replay_run.specs.Outcome.{error_line};
 ghost use Rattle.replay_run.specs.Runs.{most_input, Replays, IsExact, IsHeadline, IsComplete};
@@ -7,7 +8,7 @@ ghost use Rattle.drill_run.specs.Drills.{Drills, IsCompleteDrill};
 ghost use Rattle.jam_run.specs.declared.runs.Jammed.{Jammed};
 ghost use Rattle.jam_run.specs.Jams.{Jams};
 ghost use Rattle.troop_main.specs.Serving.{net_port_of, Serves};
-ghost use Rattle.troop_main.specs.Performing.{shelf_port_of, Performs};
+ghost use Rattle.troop_main.specs.Performing.{shelf_port_of, AsksOnly, Performs};
 ghost use Rattle.troop_main.specs.Words.{Announced, asked_of, asks_performer, Replay, Drill, Jam, Serve, Perform};
 
 use crate::performing::perform_at;
@@ -89,10 +90,11 @@ where
         (port_of (E.taken err.old) (E.taken err.new) (E.faults err.old) (E.faults err.new)) }
     ensures jam_rest { (performers calls seed : ℕ) → asked_of (map string_bytes words.now) ≡ Some (Jam performers calls seed) → (input.new ≡ input.old) × (net.new ≡ net.old) }
 
-    ensures serve { (addr : List ℕ) (sessions : Option ℕ) → asked_of (map string_bytes words.now) ≡ Some (Serve addr sessions) → Serves (record { remaining = N.D.L.Source.remaining; written = N.D.L.Sink.taken; link_faults = N.D.L.Source.faults; closed = N.D.L.Source.closed; links = N.D.links; retired = N.D.retired; door_faults = N.D.faults }) sessions result.0.code
-        (net_port_of (N.doors net.old) (N.doors net.new) (N.shut_doors net.old) (N.shut_doors net.new) (N.faults net.old) (N.faults net.new))
+    ensures serve { (addr : List ℕ) (sessions : Option ℕ) → asked_of (map string_bytes words.now) ≡ Some (Serve addr sessions) → Serves (record { remaining = N.D.L.Source.remaining; written = N.D.L.Sink.taken; link_faults = N.D.L.Source.faults; closed = N.D.L.Source.closed; links = N.D.links; retired = N.D.retired; places = N.D.places; door_faults = N.D.faults }) sessions result.0.code
+        (net_port_of addr (N.site net.old) (N.doors net.old) (N.doors net.new) (N.shut_doors net.old) (N.shut_doors net.new) (N.faults net.old) (N.faults net.new))
         (port_of (O.taken out.old) (O.taken out.new) (O.faults out.old) (O.faults out.new))
         (port_of (E.taken err.old) (E.taken err.new) (E.faults err.old) (E.faults err.new)) }
+    ensures serve_site { (addr : List ℕ) (sessions : Option ℕ) → asked_of (map string_bytes words.now) ≡ Some (Serve addr sessions) → N.site net.new ≡ asked_at addr (N.site net.old) }
     ensures serve_input { (addr : List ℕ) (sessions : Option ℕ) → asked_of (map string_bytes words.now) ≡ Some (Serve addr sessions) → input.new ≡ input.old }
 
     ensures perform { (addr : List ℕ) (who : Announced) → asked_of (map string_bytes words.now) ≡ Some (Perform addr who) → Performs (record { remaining = N.L.Source.remaining; written = N.L.Sink.taken; link_faults = N.L.Source.faults; buried = H.buried; hatch_faults = H.faults; taken = H.C.taken; child_faults = H.C.faults }) who result.0.code
@@ -100,11 +102,12 @@ where
           input = port_of (I.remaining input.old) (I.remaining input.new) (I.faults input.old) (I.faults input.new);
           out = port_of (O.taken out.old) (O.taken out.new) (O.faults out.old) (O.faults out.new);
           shelf = shelf_port_of (S.files shelf.old) (S.faults shelf.old) (S.faults shelf.new);
-          net = net_port_of (N.links net.old) (N.links net.new) (N.retired net.old) (N.retired net.new) (N.faults net.old) (N.faults net.new);
+          net = net_port_of addr (N.site net.old) (N.links net.old) (N.links net.new) (N.retired net.old) (N.retired net.new) (N.faults net.old) (N.faults net.new);
           hatch_before = hatch;
           hatch_after = result.1;
         })
         (port_of (E.taken err.old) (E.taken err.new) (E.faults err.old) (E.faults err.new)) }
+    ensures perform_site { (addr : List ℕ) (who : Announced) → asked_of (map string_bytes words.now) ≡ Some (Perform addr who) → AsksOnly addr (N.site net.old) (N.site net.new) }
     ensures perform_doors { asks_performer (asked_of (map string_bytes words.now)) ≡ true → (N.doors net.new ≡ N.doors net.old) × (N.shut_doors net.new ≡ N.shut_doors net.old) }
     ensures files { S.files shelf.new ≡ S.files shelf.old }
     ensures shelf { asks_performer (asked_of (map string_bytes words.now)) ≡ false → shelf.new ≡ shelf.old }
@@ -113,6 +116,7 @@ where
     ensures retired { asks_performer (asked_of (map string_bytes words.now)) ≡ false → N.retired net.new ≡ N.retired net.old }
     ensures places { N.places net.new ≡ N.places net.old }
     ensures door_places { N.door_places net.new ≡ N.door_places net.old }
+    ensures still_open { (I.closed input.new ≡ false) × (O.closed out.new ≡ false) × (E.closed err.new ≡ false) }
 {
     let status = match read_command(words) {
         Some(Command::Replay) => replay(alloc, input, out, err),
@@ -155,9 +159,10 @@ fn jam_alone<O: Sink, E: Sink, R: Threads + Wait + Sync>(
     requires few { (1 ≤ performers) × (performers ≤ 64) × (calls ≤ 1000) }
     requires out_open { O.closed out.old ≡ false }
     requires err_open { E.closed err.old ≡ false }
-    ensures { (handed : Option Jammed) × Jams performers calls seed result.code handed
+    ensures table { (handed : Option Jammed) × Jams performers calls seed result.code handed
         (port_of (O.taken out.old) (O.taken out.new) (O.faults out.old) (O.faults out.new))
         (port_of (E.taken err.old) (E.taken err.new) (E.faults err.old) (E.faults err.new)) }
+    ensures still_open { (O.closed out.new ≡ false) × (E.closed err.new ≡ false) }
 {
     let handed = jam(rt, alloc, performers, calls, seed, out, err);
     handed.0

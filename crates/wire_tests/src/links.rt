@@ -29,9 +29,9 @@ fn a_link_in_memory_counts_reads_and_writes_by_themselves(rt: HostRuntime) -> Re
     Ok(())
 }
 
-// Dials, and hands the link back. Whether there was one.
-fn dial_once<N: Net>(net: &mut N) -> bool {
-    match net.dial("a") {
+// Dials the address, and hands the link back. Whether there was one.
+fn dial_once<N: Net>(net: &mut N, addr: &str) -> bool {
+    match net.dial(addr) {
         Dialled::Link(link) => {
             net.retire(link);
             true
@@ -81,10 +81,13 @@ fn a_net_in_memory_gives_doors_and_links_and_takes_them_back(rt: HostRuntime) ->
     assert_eq!(rt; door.retired().len(), 1);
     let mut doors = Vec::new(rt.alloc());
     doors.push(door)?;
-    let mut net = ListNet::new(rt.alloc(), doors, one_link(rt.alloc())?, &[1])?;
-    assert!(rt; !dial_once(&mut net));
-    assert!(rt; dial_once(&mut net));
-    assert!(rt; !dial_once(&mut net));
+    let links = one_link(rt.alloc())?;
+    let home = String::from_str(rt.alloc(), "a")?;
+    let mut net = ListNet::new(rt.alloc(), doors, links, &[1])?.standing_at(home);
+    assert!(rt; !dial_once(&mut net, "a"));
+    assert!(rt; !dial_once(&mut net, "b"));
+    assert!(rt; dial_once(&mut net, "a"));
+    assert!(rt; !dial_once(&mut net, "a"));
     assert!(rt; listen_once(&mut net));
     assert!(rt; !listen_once(&mut net));
     assert_eq!(rt; (net.retired().len(), net.shut_doors().len()), (1, 1));

@@ -44,10 +44,12 @@ fn an_edit_has_its_number_and_a_normal_operation(rt: HostRuntime) -> Result<(), 
 }
 
 #[test]
-fn no_front_of_an_edit_is_a_request(rt: HostRuntime) -> Result<(), Fail> {
-    let line = EDIT.as_bytes();
-    for end in 0..line.len() {
-        assert!(rt; is_bad(&read_request(rt.alloc(), &line[..end])));
+fn no_front_of_a_request_is_one(rt: HostRuntime) -> Result<(), Fail> {
+    for request in [EDIT, "{\"call\":\"leave\"}"] {
+        let line = request.as_bytes();
+        for end in 0..line.len() {
+            assert!(rt; is_bad(&read_request(rt.alloc(), &line[..end])));
+        }
     }
     Ok(())
 }
@@ -64,8 +66,11 @@ const REQUESTS: [&str; 9] = [
     "{\"call\":\"stay\",\"lang\":\"lines\",\"name\":\"abcdefghijklmnopqrstuvwxyzabcdef\"}",
 ];
 
-const NO_REQUESTS: [&str; 24] = [
+const NO_REQUESTS: [&str; 27] = [
     "",
+    "[[[[[[[[[[[[[[[[[[[[[[[[[[[[[[[[[[[[[[[[[[[[[[[[[[[[[[[[[[[[[[[[[[[[[[[[[[[[[[[[[[[[[[[[[[[[[[[[[[[[[[[[[[[[[[[[[[[[[[[[[[[[[[[[]]]]]]]]]]]]]]]]]]]]]]]]]]]]]]]]]]]]]]]]]]]]]]]]]]]]]]]]]]]]]]]]]]]]]]]]]]]]]]]]]]]]]]]]]]]]]]]]]]]]]]]]]]]]]]]]]]]]]]]]]]]]]]]]",
+    "{\"call\":\"edit\",\"op\":[9007199254740992],\"seen\":0}",
+    "{\"call\":\"edit\",\"op\":[9007199254740991,-1],\"seen\":0}",
     "null",
     "[\"call\"]",
     "{\"call\":\"stop\"}",
@@ -99,6 +104,7 @@ fn lines_are_requests_or_bad(rt: HostRuntime) -> Result<(), Fail> {
     for line in NO_REQUESTS {
         assert!(rt; is_bad(&read_request(rt.alloc(), line.as_bytes())));
     }
+    assert!(rt; is_bad(&read_request(rt.alloc(), b"\xff\xfe")));
     assert!(rt; is_bad(&read_request(rt.alloc(), b"{\"call\":\"leave\",\"other\":\"\xff\"}")));
     Ok(())
 }

@@ -4,8 +4,8 @@ use Rattle.troop_main.specs.Performing.{closing_lines}
 use Rattle.troop_main.proofs.SaysServed.{took_part}
 use Rattle.troop_main.proofs.performing.print_last.Goals as goal
 
-pub returns : goal.returns
-returns g c = (
+pub returns-clause-prints : goal.returns-clause-prints
+returns-clause-prints g c = (
   c.in-Part.ensures.cause,
   took_part c.in-Part.field-0 c.as_slice.result.now (closing_lines c.args.name.now c.args.who c.args.stage.now.staged c.args.notes.now)
       (port_of (g.O.Sink.taken c.args.out.now) (g.O.Sink.taken c.write_all.new.sink) (g.O.Sink.faults c.args.out.now) (g.O.Sink.faults c.write_all.new.sink))

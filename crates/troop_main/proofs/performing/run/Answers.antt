@@ -3,7 +3,7 @@ use Rattle.std.specs.Prelude.{option_copied}
 use Rattle.replay_run.specs.Ports.{port_of}
 use Rattle.troop_main.specs.Words.{Announced, announced}
 use Rattle.troop_main.specs.Serving.{net_port_of}
-use Rattle.troop_main.specs.Performing.{shelf_port_of, AreRetired, Scene, TellingLinks, Performance, IsUnopened, IsPerformance}
+use Rattle.troop_main.specs.Performing.{shelf_port_of, AreRetired, Scene, TellingLinks, Performance, FailedOpening, IsPerformance}
 use Rattle.troop_main.proofs.SaysPerformed.{retired_by, unopened, performed, took_idle}
 use Rattle.troop_main.proofs.performing.run.Goals as goal
 
@@ -22,7 +22,7 @@ returns-in-Ok-performed-clause-says g c =
       input = port_of (g.I.Source.remaining c.args.input.now) (g.I.Source.remaining c.perform-performed.new.commands) (g.I.Source.faults c.args.input.now) (g.I.Source.faults c.perform-performed.new.commands);
       out = port_of (g.O.Sink.taken c.args.out.now) (g.O.Sink.taken c.print_report.new.out) (g.O.Sink.faults c.args.out.now) (g.O.Sink.faults c.print_report.new.out);
       shelf = shelf_port_of (g.S.Shelf.files c.args.shelf.now) (g.S.Shelf.faults c.args.shelf.now) (g.S.Shelf.faults c.fetch_boot.new.shelf);
-      net = net_port_of (g.N.Net.links c.args.net.now) (g.N.Net.links c.retire-2.new.self) (g.N.Net.retired c.args.net.now) (g.N.Net.retired c.retire-2.new.self) (g.N.Net.faults c.args.net.now)
+      net = net_port_of c.args.addr.now (g.N.Net.site c.args.net.now) (g.N.Net.links c.args.net.now) (g.N.Net.links c.retire-2.new.self) (g.N.Net.retired c.args.net.now) (g.N.Net.retired c.retire-2.new.self) (g.N.Net.faults c.args.net.now)
           (g.N.Net.faults c.retire-2.new.self);
       hatch_before = c.args.hatch;
       hatch_after = c.print_report.result.1;
@@ -30,7 +30,7 @@ returns-in-Ok-performed-clause-says g c =
     let who : List ℕ → Announced = λ name. record { name = name; lang = c.args.billing.lang; boot = option_copied c.args.billing.boot } in
     let back = c.perform-performed.new in
     let retired : AreRetired g.N.L.Source.faults c.in-Some.up back.up c.in-Some.down back.down scene.net =
-    retired_by g.N.L.Source.faults c.in-Some.up back.up c.in-Some.down back.down
+    retired_by g.N.L.Source.faults c.in-Some.up back.up c.in-Some.down back.down c.args.addr.now (g.N.Net.site c.args.net.now)
     (g.N.Net.links c.args.net.now) (g.N.Net.links c.dial_both.new.net) (g.N.Net.links c.retire.new.self) (g.N.Net.links c.retire-2.new.self)
     (g.N.Net.retired c.args.net.now) (g.N.Net.retired c.dial_both.new.net) (g.N.Net.retired c.retire.new.self) (g.N.Net.retired c.retire-2.new.self)
     (g.N.Net.faults c.args.net.now) (g.N.Net.faults c.dial_both.new.net) (g.N.Net.faults c.retire.new.self) (g.N.Net.faults c.retire-2.new.self)
@@ -91,7 +91,7 @@ returns-clause-says g c =
       input = port_of (g.I.Source.remaining c.args.input.now) (g.I.Source.remaining c.perform-performed.new.commands) (g.I.Source.faults c.args.input.now) (g.I.Source.faults c.perform-performed.new.commands);
       out = port_of (g.O.Sink.taken c.args.out.now) (g.O.Sink.taken c.perform-performed.new.out) (g.O.Sink.faults c.args.out.now) (g.O.Sink.faults c.perform-performed.new.out);
       shelf = shelf_port_of (g.S.Shelf.files c.args.shelf.now) (g.S.Shelf.faults c.args.shelf.now) (g.S.Shelf.faults c.fetch_boot.new.shelf);
-      net = net_port_of (g.N.Net.links c.args.net.now) (g.N.Net.links c.retire-2.new.self) (g.N.Net.retired c.args.net.now) (g.N.Net.retired c.retire-2.new.self) (g.N.Net.faults c.args.net.now)
+      net = net_port_of c.args.addr.now (g.N.Net.site c.args.net.now) (g.N.Net.links c.args.net.now) (g.N.Net.links c.retire-2.new.self) (g.N.Net.retired c.args.net.now) (g.N.Net.retired c.retire-2.new.self) (g.N.Net.faults c.args.net.now)
           (g.N.Net.faults c.retire-2.new.self);
       hatch_before = c.args.hatch;
       hatch_after = c.into_hatch.result;
@@ -99,13 +99,13 @@ returns-clause-says g c =
     let who : List ℕ → Announced = λ name. record { name = name; lang = c.args.billing.lang; boot = option_copied c.args.billing.boot } in
     let back = c.perform-performed.new in
     let retired : AreRetired g.N.L.Source.faults c.in-Some.up back.up c.in-Some.down back.down scene.net =
-    retired_by g.N.L.Source.faults c.in-Some.up back.up c.in-Some.down back.down
+    retired_by g.N.L.Source.faults c.in-Some.up back.up c.in-Some.down back.down c.args.addr.now (g.N.Net.site c.args.net.now)
     (g.N.Net.links c.args.net.now) (g.N.Net.links c.dial_both.new.net) (g.N.Net.links c.retire.new.self) (g.N.Net.links c.retire-2.new.self)
     (g.N.Net.retired c.args.net.now) (g.N.Net.retired c.dial_both.new.net) (g.N.Net.retired c.retire.new.self) (g.N.Net.retired c.retire-2.new.self)
     (g.N.Net.faults c.args.net.now) (g.N.Net.faults c.dial_both.new.net) (g.N.Net.faults c.retire.new.self) (g.N.Net.faults c.retire-2.new.self)
     c.in-Some.ensures.links c.retire.ensures.links c.retire.ensures.retired c.retire.ensures.count c.retire-2.ensures.links c.retire-2.ensures.retired c.retire-2.ensures.count in
     let e = c.in-Err-performed.ensures in
-    let is : IsUnopened tells (who c.in-Ok-of.name) c.in-Err-performed.error scene = record {
+    let is : FailedOpening tells (who c.in-Ok-of.name) c.in-Err-performed.error scene = record {
       booted = (c.in-Ok.boot.items, c.in-Ok.ensures.ok);
       unplayed = (
         ap g.I.Source.faults e.untouched.0,
@@ -123,4 +123,4 @@ returns-clause-says g c =
       counts = e.err_counts;
     } in
     unopened tells (announced c.args.billing) c.in-Err-performed.error scene
-    (subst (λ (name : List ℕ). IsUnopened tells (who name) c.in-Err-performed.error scene) c.in-Ok-of.ensures is)
+    (subst (λ (name : List ℕ). FailedOpening tells (who name) c.in-Err-performed.error scene) c.in-Ok-of.ensures is)

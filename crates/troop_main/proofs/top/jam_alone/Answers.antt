@@ -1,4 +1,4 @@
 use Rattle.troop_main.proofs.top.jam_alone.Goals as goal
 
-pub returns : goal.returns
-returns g c = (c.jam-handed.result.1, c.jam-handed.ensures.table)
+pub returns-clause-table : goal.returns-clause-table
+returns-clause-table g c = (c.jam-handed.result.1, c.jam-handed.ensures.table)
