@@ -16,7 +16,9 @@ PAGE = "docs/CONTRACTS.md"
 WORD = re.compile(r"[A-Za-z_][A-Za-z0-9_']*")
 USE = re.compile(r"use Rattle\.(\w+)\.(specs|proofs)\.([\w.]+?)(?:\.\{([^}]*)\}|\s+as\s+\w+|;|$)", re.M)
 NAMED = re.compile(r"\b(\w+)(?:::<[^>(]*>)?\(")
-DEFINITION = re.compile(r"^(?:abbrev pub|unfoldable pub|pub data|pub record) ([A-Za-z_][A-Za-z0-9_'-]*)", re.M)
+# Names of two definitions that never meet: what a door accepts, and what a reply's line that was accepted says.
+SHARED = {"accepted_of"}
+DEFINITION = re.compile(r"^ *(?:abbrev pub|unfoldable pub|pub data|pub record) ([A-Za-z_][A-Za-z0-9_'-]*)", re.M)
 
 
 class Definition:
@@ -74,7 +76,7 @@ def definitions_of(crate):
     for path in files(f"crates/{crate}/specs", ".antt"):
         text = read(path)
         lines = text.splitlines()
-        starts = [match.start() for match in re.finditer(r"^(?:abbrev|unfoldable|pub|mutual|-- ----)", text, re.M)] + [len(text)]
+        starts = [match.start() for match in re.finditer(r"^ *(?:abbrev|unfoldable|pub|mutual|-- ----)", text, re.M)] + [len(text)]
         for match in DEFINITION.finditer(text):
             line = line_of(text, match.start())
             end = min(at for at in starts if at > match.start())
@@ -156,14 +158,16 @@ def calls_of(crate):
                 continue
             if owner is not None and (owner not in public or not (is_pub or of_trait)):
                 continue
-            if owner is not None and of_trait == "impl":
-                continue
             at = match.end()
             if text[at] == "<":
                 at = balanced(text, at, "<", ">")
             at = balanced(text, text.index("(", at), "(", ")")
             doc = comment_above(lines, line - 1, "///")
-            found.append(Call(crate, path, line, owner, name, doc, clauses_from(text, at)))
+            clauses = clauses_from(text, at)
+            # What a trait's impl says beside the trait, which is on the page already.
+            if of_trait == "impl" and not clauses:
+                continue
+            found.append(Call(crate, path, line, owner, name, doc, clauses))
     return found
 
 
@@ -293,7 +297,7 @@ def faults(names, definitions, calls, made):
     for d in definitions:
         by_name.setdefault(d.name, []).append(d)
     for name, ones in sorted(by_name.items()):
-        if len(ones) > 1:
+        if len(ones) > 1 and name not in SHARED:
             found.append(f"{name} is defined {len(ones)} times: " + ", ".join(f"{d.path}:{d.line}" for d in ones))
     tested = set()
     for crate in names:
