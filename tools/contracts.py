@@ -16,8 +16,6 @@ PAGE = "docs/CONTRACTS.md"
 WORD = re.compile(r"[A-Za-z_][A-Za-z0-9_']*")
 USE = re.compile(r"use Rattle\.(\w+)\.(specs|proofs)\.([\w.]+?)(?:\.\{([^}]*)\}|\s+as\s+\w+|;|$)", re.M)
 NAMED = re.compile(r"\b(\w+)(?:::<[^>(]*>)?\(")
-# Names of two definitions that never meet: what a door accepts, and what a reply's line that was accepted says.
-SHARED = {"accepted_of"}
 DEFINITION = re.compile(r"^ *(?:abbrev pub|unfoldable pub|pub data|pub record) ([A-Za-z_][A-Za-z0-9_'-]*)", re.M)
 
 
@@ -297,7 +295,7 @@ def faults(names, definitions, calls, made):
     for d in definitions:
         by_name.setdefault(d.name, []).append(d)
     for name, ones in sorted(by_name.items()):
-        if len(ones) > 1 and name not in SHARED:
+        if len(ones) > 1:
             found.append(f"{name} is defined {len(ones)} times: " + ", ".join(f"{d.path}:{d.line}" for d in ones))
     tested = set()
     for crate in names:

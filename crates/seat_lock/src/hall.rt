@@ -112,8 +112,8 @@ impl<S: Played> Hall<S> {
         look_at_count(&self.board, &mut seat.inner)
     }
 
-    /// Waits until there are more rows than this, and answers how many. The seat has then seen them. It parks on the count, and
-    /// each row that is counted wakes it.
+    /// Waits until there are more rows than this, and answers how many. The seat has then seen them. It parks on the count,
+    /// which each row changes; that it is woken no clause says.
     pub fn wait_past<R: Wait>(&self, rt: &R, seat: &mut SeatOf<S>, start: u64) -> u64
         requires { IsSeatOf S.rows S.fixed self.now seat.old }
         ensures hall { IsSeatOf S.rows S.fixed self.now seat.new }

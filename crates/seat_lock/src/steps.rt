@@ -58,7 +58,7 @@ pub(crate) fn put_in<S: Played>(board: &Board<S>, inner: &mut TableSeat<S>, stat
     let None = found else { unreachable!() };
 }
 
-/// Passes the turn on, with the state in the slot, and wakes who waits for it.
+/// Passes the turn on, with the state in the slot, and calls those who wait for it.
 pub(crate) fn pass_turn<S: Played>(board: &Board<S>, inner: &mut TableSeat<S>)
     requires board { IsSized board.now.shared.table_id × (inner.old.table_id ≡ board.now.shared.table_id) }
     requires turn { (inner.old.me.0.live ≡ true) × ((t : ℕ) × (inner.old.me.0.phase ≡ Playing t)) }
@@ -100,7 +100,7 @@ pub(crate) fn look_at_count<S: Played>(board: &Board<S>, inner: &mut TableSeat<S
     board.shared.load::<Count>(inner, COUNT)
 }
 
-/// Counts the last row of the state in the slot, which is the seat's, and wakes who waits for rows.
+/// Counts the last row of the state in the slot, which is the seat's, and calls those who wait for rows.
 pub(crate) fn publish<S: Played>(board: &Board<S>, inner: &mut TableSeat<S>)
     requires board { IsSized board.now.shared.table_id × (inner.old.table_id ≡ board.now.shared.table_id) }
     requires turn { (inner.old.me.0.live ≡ true) × (inner.old.me.0.others ≡ []) × ((t : ℕ) × (inner.old.me.0.phase ≡ Playing t)) }

@@ -1,4 +1,4 @@
--- SpacedText and marks, side by side.
+-- Text and marks, side by side.
 use Rattle.std.proofs.Common.{◌≡◌, ℕ, List, [], ◌∷◌, length, refl, sym, ap, ◌∙◌, arith}
 use Rattle.std.specs.Prelude.{zip}
 use Rattle.ot_text.specs.Change.{Change, base, effect, plain}

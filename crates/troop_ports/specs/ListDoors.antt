@@ -22,8 +22,8 @@ module _ {L : Type 0} where
   first_accepted (link ∷ others) = accepted.Link link
 
   -- the answer to an accept: a listed call fails, another gives the next link, or the end where none is left
-  abbrev pub accepted_of : Entrance L → Accepted L
-  accepted_of door = if is_listed (next_count door.calls) door.fails then accepted.Failed else first_accepted door.links
+  abbrev pub accept_answer : Entrance L → Accepted L
+  accept_answer door = if is_listed (next_count door.calls) door.fails then accepted.Failed else first_accepted door.links
 
   -- the door after that answer: a link that is given leaves a place, a fault is counted
   abbrev pub door_after : Entrance L → Accepted L → Entrance L

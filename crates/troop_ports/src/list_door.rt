@@ -1,7 +1,7 @@
 //! A door in memory.
 ghost use Rattle.std.specs.Prelude.{◌≡◌, ◌+◌, ◌-◌, ◌<◌, [], ◌∷◌, ◌++◌, Some, false, All, IfOk};
 ghost use Rattle.troop_ports.specs.Doors.{IfAccepted, CountsAccept};
-ghost use Rattle.troop_ports.specs.ListDoors.{accepted_of, door_after};
+ghost use Rattle.troop_ports.specs.ListDoors.{accept_answer, door_after};
 
 use crate::{Accepted, Door, Link};
 use std::alloc::{AllocError, Global};
@@ -76,7 +76,7 @@ impl<L: Link> Door for ListDoor<L> {
     ghost faults = { λ d. d.faults };
 
     fn accept(&mut self) -> Accepted<L>
-        ensures answer { result ≡ accepted_of self.old }
+        ensures answer { result ≡ accept_answer self.old }
         ensures after { self.new ≡ door_after self.old result }
         ensures is_open { IfAccepted result (λ link. L.Source.closed link ≡ false) }
         ensures cause { CountsAccept result self.old.faults self.new.faults }

@@ -12,7 +12,8 @@ const LONGEST_WRITE: u64 = 60;
 
 /// A stream, with a count of its errors and of the writes that took nothing.
 ///
-/// What is written goes out at once. A write that waits for a minute is an error, so no peer holds its writer for ever.
+/// What is written goes out at once. A write is to fail once it has waited for a minute, so that a peer that stops reading
+/// doesn't hold its writer for ever.
 #[derive(Drop)]
 pub struct TcpLink {
     // The stream, until the link is closed.

@@ -42,7 +42,7 @@ enum State {
     Fault,
 }
 
-/// ReadsLine lines from a source. It holds no more than the front of one line and one piece.
+/// Reads lines from a source. It holds no more than the front of one line and one piece.
 #[derive(Drop)]
 pub struct LineReader {
     limit: usize,
@@ -166,7 +166,7 @@ impl LineReader {
         None
     }
 
-    // ReadsLine a piece.
+    // Reads a piece.
     fn fill<S: Source>(&mut self, source: &mut S) -> Option<Line>
         requires is_open { S.closed source.old ≡ false }
         requires going { self.old.state ≡ State.Going }
