@@ -1,5 +1,5 @@
 -- Lines that were given, one after the other.
-use Rattle.std.proofs.Common.{◌≡◌, ℕ, List, [], ◌∷◌, ◌++◌, map, Option, None, Some, option_map, refl, sym, ap, ◌∙◌, subst, append_assoc, append-nil}
+use Rattle.std.proofs.Common.{◌≡◌, ℕ, List, [], ◌∷◌, ◌++◌, map, Option, None, Some, refl, sym, ap, ◌∙◌, subst, append_assoc, append-nil}
 use Rattle.seat_lock.specs.Lists.{Begins}
 use Rattle.troop_ports.specs.Bytes.{in_front}
 use Rattle.wire_lines.specs.Lines.{lines}

@@ -1,6 +1,7 @@
 pub mod IfOk
 pub mod GaveLines
 pub mod TellsLine
+pub mod IsCutOff
 pub mod Remembers
 pub mod MachineAt
 pub mod FedSome

@@ -1,6 +1,6 @@
 -- What a command did.
-use Rattle.std.proofs.Common.{◌≡◌, ◌≢◌, ◌⊎◌, inl, inr, ℕ, ◌≤◌, ◌+◌, ◌==◌, Bool, true, false, if◌then◌else◌, List, [], ◌∷◌, ◌++◌, length, Option, None, Some, Result, Ok, Err, is_ok, refl, sym, ap, ◌∙◌, subst, append_assoc, append-nil, length-append, ◌-◌, ◌^◌, min, arith}
-use Rattle.std.specs.Prelude.{is_none, IfSome}
+use Rattle.std.proofs.Common.{◌≡◌, ◌⊎◌, inl, inr, ℕ, ◌≤◌, ◌+◌, ◌==◌, Bool, true, false, if◌then◌else◌, List, [], ◌∷◌, ◌++◌, length, Option, None, Some, Result, Ok, Err, is_ok, refl, sym, ap, ◌∙◌, subst, append_assoc, append-nil, length-append, ◌-◌, ◌^◌, min, arith}
+use Rattle.std.specs.Prelude.{is_none}
 use Rattle.seat_lock.specs.Lists.{Begins, AllOf}
 use Rattle.seat_lock.specs.Values.{SeatValue, with_rows}
 use Rattle.ot_text.specs.Change.{Change, base}
@@ -19,12 +19,12 @@ use Rattle.activities.specs.declared.commands.Flow.{Flow}
 use Rattle.activities.specs.declared.commands.Flow.TheVariants as flow
 use Rattle.activities.specs.declared.errors.PerformError.{PerformError}
 use Rattle.activities.specs.declared.errors.PerformError.TheVariants as error
-use Rattle.activities.specs.Memory.{PlacedAct, SeatMemory, seen_in, by_others, own_act, placed_row, SeesMore, Remembers, LooksOn}
-use Rattle.activities.specs.Commands.{refusal_line, ask_answer, command_output, done_by, LetsGoOn, FindsClosed, IsCommandFault, DidCommand, WroteLine, Answered, AsksStage, FollowsAnswer, performer_line, RunsCommands, RanCommands, CutLine, CommandsEnd, NoCommand, IsCounted, DidSpoken, DidBlank, DidNone, DidLine, IsBadLine, spoken_lines, lines_size, most_commands, base_line, blank_line}
+use Rattle.activities.specs.Memory.{PlacedAct, SeatMemory, seen_in, by_others, own_act, placed_row, SeesMore, Remembers}
+use Rattle.activities.specs.Commands.{refusal_line, ask_answer, command_output, done_by, LetsGoOn, FindsClosed, IsCommandFault, DidCommand, WroteLine, Answered, AsksStage, FollowsAnswer, performer_line, RunsCommands, RanCommands, CutLine, CommandsEnd, NoCommand, DidSpoken, DidBlank, DidLine, spoken_lines, lines_size, most_commands, base_line, blank_line}
 use Rattle.activities.specs.Ending.{IsEnd}
 use Rattle.wire_json.specs.Commands.{command_of_line}
 use Rattle.wire_json.specs.Fields.{is_blank_line}
-use Rattle.activities.specs.Lines.{GaveLines, IsHeldBack, AreReadAs, number_behind}
+use Rattle.activities.specs.Lines.{GaveLines, IsHeldBack, IsCutOff, AreReadAs, number_behind}
 use Rattle.activities.proofs.GaveLines.{gave_none, gave_more, mean_more}
 use Rattle.activities.proofs.Remembers.{remembers_later, remembers_mine}
 use Rattle.activities.proofs.SentUp.{nothing_written, written_more}
@@ -429,9 +429,9 @@ not_on r is end = subst IsEnd is end
 
 -- the commands ended
 pub run_ended : (o : Origin) (name : List ℕ) (who : ℕ) (told mid left remaining before now next : Option (List ℕ)) (s t u : SeatValue PlacedAct Origin) (number size total : ℕ) (r : Result Flow PerformError)
-    → (h : RunSoFar o name who told mid before now s t number size) → IsEnd r → IsHeldBack left remaining
+    → (h : RunSoFar o name who told mid before now s t number size) → IsEnd r → IsHeldBack left remaining → (r ≡ Err error.ReadFault → IsCutOff told h.given remaining)
     → DidLine o t.number number name who h.k mid left remaining size total now next u r → RanCommands o name who r told remaining before next s u
-run_ended o name who told mid left remaining before now next s t u number size total r h end held (inl did) =
+run_ended o name who told mid left remaining before now next s t u number size total r h end held whole (inl did) =
     let e = ends_with o name who number size u did.c did.line left remaining h.k now next t.number r did.means end did.did in
     record {
       k = e.0;
@@ -442,6 +442,7 @@ run_ended o name who told mid left remaining before now next s t u number size t
       rest = left;
       gave = gave_more told mid left h.given (did.line ∷ []) h.gave did.gave;
       held = held;
+      whole = whole;
       mean = h.mean;
       within = subst (λ n. n ≤ most_commands) h.sized h.within;
       printed = h.printed;
@@ -452,8 +453,8 @@ run_ended o name who told mid left remaining before now next s t u number size t
       written = written_more before now next h.printed e.3.0 h.written e.3.1;
       ends = subst (λ (n : ℕ × ℕ). CommandsEnd o n.0 n.1 name who u.seen (did.line ∷ []) e.3.0 left remaining r) (λ i. (h.counted i, h.sized i)) e.3.2;
     }
-run_ended o name who told mid left remaining before now next s t u number size total r h end held (inr (inl blank)) = absurd (not_on r blank.goes end)
-run_ended o name who told mid left remaining before now next s t u number size total r h end held (inr (inr none)) = record {
+run_ended o name who told mid left remaining before now next s t u number size total r h end held whole (inr (inl blank)) = absurd (not_on r blank.goes end)
+run_ended o name who told mid left remaining before now next s t u number size total r h end held whole (inr (inr none)) = record {
   k = h.k;
   remembers = none.remembers;
   given = h.given;
@@ -462,6 +463,7 @@ run_ended o name who told mid left remaining before now next s t u number size t
   rest = none.rest;
   gave = gave_more told mid none.rest h.given none.last h.gave none.gave;
   held = none.held;
+  whole = whole;
   mean = h.mean;
   within = subst (λ n. n ≤ most_commands) h.sized h.within;
   printed = h.printed;

@@ -1,12 +1,11 @@
 -- What the up line sent.
-use Rattle.std.proofs.Common.{◌≡◌, ℕ, ◌+◌, ◌-◌, ◌^◌, ◌≤◌, ◌<◌, min, Bool, true, false, if◌then◌else◌, List, [], ◌∷◌, ◌++◌, length, take, drop, Option, None, Some, Result, Ok, Err, IsOk, IfOk, option_map, inl, inr, refl, sym, ap, ◌∙◌, subst, append_assoc, append-nil, length-append, arith}
+use Rattle.std.proofs.Common.{◌≡◌, ℕ, ◌+◌, ◌-◌, ◌^◌, min, Bool, true, false, if◌then◌else◌, List, [], ◌∷◌, ◌++◌, length, take, drop, Option, None, Some, Result, Ok, Err, IsOk, IfOk, IfErr, inl, inr, refl, sym, ap, ◌∙◌, subst, append_assoc, append-nil, length-append, arith}
 use Rattle.std.proofs.lemmas.List.{take-append-drop}
 use Rattle.seat_lock.specs.Lists.{Begins, AllOf}
 use Rattle.seat_lock.specs.Values.{SeatValue}
 use Rattle.std.specs.declared.alloc.AllocError.{AllocError}
 use Rattle.troop_entry.specs.declared.call.Call.{Call}
 use Rattle.troop_ports.specs.Bytes.{at_end}
-use Rattle.stage_state.specs.declared.act.Act.{Act}
 use Rattle.stage_state.specs.declared.act.Act.TheVariants as act
 use Rattle.stage_state.specs.declared.act.Next.{Next}
 use Rattle.stage_state.specs.declared.act.Next.TheVariants as next
@@ -16,15 +15,18 @@ use Rattle.stage_state.specs.declared.played.Origin.{Origin}
 use Rattle.stage_state.specs.Machine.{Machine, next_of, after_act, after_acts}
 use Rattle.stage_state.specs.Staged.{acts_of}
 use Rattle.stage_state.specs.Origins.{machine_at}
-use Rattle.stage_state.specs.Replies.{reply_of, accepts, sends}
-use Rattle.activities.specs.Lines.{GaveLines, IsHeldBack, number_behind}
+use Rattle.stage_state.specs.Replies.{accepts, sends}
+use Rattle.wire_lines.specs.Reader.{Reader}
+use Rattle.wire_lines.specs.declared.reader.State.{State}
+use Rattle.activities.specs.Lines.{GaveLines, IsHeldBack, IsCutOff, GoesWhole, FailsBare, number_behind}
 use Rattle.activities.specs.declared.up.Placing.{Placing}
 use Rattle.activities.specs.declared.errors.PerformError.{PerformError}
 use Rattle.activities.specs.declared.errors.PerformError.TheVariants as error
-use Rattle.activities.specs.Memory.{PlacedAct, SeatMemory, seen_in, own_in, by_others, own_act, placed_row, SeesMore, Remembers, ActsAt, Recalls}
-use Rattle.activities.specs.Up.{call_line, call_lines, next_pair, sent_by, sent_in, IsNextAct, FitsRequest, TellsPlaced, WroteCall, ReadsReply, SentCall, UpEnds, SentUp}
-use Rattle.activities.proofs.Remembers.{recalls, remembers_later, all-append, seen_in-append}
+use Rattle.activities.specs.Memory.{PlacedAct, SeatMemory, seen_in, by_others, own_act, placed_row, SeesMore, Remembers, ActsAt}
+use Rattle.activities.specs.Up.{call_line, call_lines, next_pair, sent_by, sent_in, IsNextAct, FitsRequest, TellsPlaced, IsUnwritten, WroteCall, ReadsReply, SentCall, UpEnds, SentUp}
+use Rattle.activities.proofs.Remembers.{recalls, remembers_later, all-append}
 use Rattle.activities.proofs.GaveLines.{gave_none, gave_more}
+use Rattle.activities.proofs.IsCutOff.{cut_off}
 
 -- ---- bytes
 
@@ -47,17 +49,25 @@ call_lines-more [] c = append-nil (call_line c)
 call_lines-more (x ∷ calls) c = ap (λ rest. call_line x ++ rest) (call_lines-more calls c) ∙ sym (append_assoc (call_line x) (call_lines calls) (call_line c))
 
 -- the call's line was written, and then its reply was read
-pub call_sent : (number : ℕ) (pair : ℕ × Call) (told mid after remaining before wrote now : Option (List ℕ)) (r : Result Placing PerformError) → mid ≡ told
-    → WroteCall pair before wrote (Ok tt) → now ≡ wrote → ReadsReply number mid after remaining r → SentCall number pair told after remaining before now r
-call_sent number pair told mid after remaining before wrote now (Ok placing) same line kept read =
+pub call_sent : (number : ℕ) (pair : ℕ × Call) (was : State) (told mid after remaining before wrote now : Option (List ℕ)) (r : Result Placing PerformError) → mid ≡ told
+    → WroteCall pair before wrote (Ok tt) → now ≡ wrote → ReadsReply number mid after remaining r
+    → IfErr r (λ e. e ≡ error.NetFault → FailsBare was told remaining) → SentCall number pair was told after remaining before now r
+call_sent number pair was told mid after remaining before wrote now (Ok placing) same line kept read bare =
     (read.0, subst (λ (t : Option (List ℕ)). GaveLines t (read.0 ∷ []) after) same read.1, read.2, kept ∙ line.0, line.1)
-call_sent number pair told mid after remaining before wrote now (Err error) same line kept read =
-    (call_line pair, read.0, read.1, subst (λ (t : Option (List ℕ)). GaveLines t read.0 read.1) same read.2, read.3, kept ∙ line.0, inr (refl, read.4, line.1))
+call_sent number pair was told mid after remaining before wrote now (Err e) same line kept read bare =
+    (call_line pair, read.0, read.1, subst (λ (t : Option (List ℕ)). GaveLines t read.0 read.1) same read.2, read.3, kept ∙ line.0, inr (refl, read.4, line.1), λ is all. bare is)
+
+unwritten_part : (pair : ℕ × Call) (front : List ℕ) (e : PerformError) → IsUnwritten pair front e → e ≡ error.NetFault → front ≡ call_line pair → ⊥
+unwritten_part pair front e h is all =
+    let part = subst (λ (x : PerformError). IsUnwritten pair front x) is h in
+    let same = ap length all in
+    absurd (omega (arith, part.1, same))
 
 -- the call's line wasn't written whole
-pub call_unwritten : (number : ℕ) (pair : ℕ × Call) (told after remaining before now : Option (List ℕ)) (error : PerformError) → IsHeldBack told remaining
-    → WroteCall pair before now (Err error) → SentCall number pair told after remaining before now (Err error)
-call_unwritten number pair told after remaining before now error held wrote = (wrote.0, [], told, gave_none told, held, wrote.1, inl (wrote.2, refl))
+pub call_unwritten : (number : ℕ) (pair : ℕ × Call) (was : State) (told after remaining before now : Option (List ℕ)) (e : PerformError) → IsHeldBack told remaining
+    → WroteCall pair before now (Err e) → SentCall number pair was told after remaining before now (Err e)
+call_unwritten number pair was told after remaining before now e held wrote =
+    (wrote.0, [], told, gave_none told, held, wrote.1, inl (wrote.2, refl), λ is all. absurd (unwritten_part pair wrote.0 e wrote.2 is all))
 
 -- ---- the calls sent
 
@@ -173,10 +183,10 @@ nexted o told left before now s t u number n h acts same =
     }
 
 -- a call went out, and was placed
-pub up_sent : (o : Origin) (told mid left remaining before now later : Option (List ℕ)) (s t u : SeatValue PlacedAct Origin) (number more num : ℕ) (c : Call) (placing : Placing)
+pub up_sent : (o : Origin) (told mid left remaining before now later : Option (List ℕ)) (s t u : SeatValue PlacedAct Origin) (number more num : ℕ) (c : Call) (placing : Placing) (was : State)
     → UpSoFar o told mid before now s t number → ActsAt o act.Next t (reply.Next (next.Send num c)) u → u.number ≡ t.number
-    → SentCall number (num, c) mid left remaining now later (Ok placing) → more ≡ min (number + 1) (2 ^ 64 - 1) → UpSoFar o told left before later s u more
-up_sent o told mid left remaining before now later s t u number more num c placing h acts same sent count =
+    → SentCall number (num, c) was mid left remaining now later (Ok placing) → more ≡ min (number + 1) (2 ^ 64 - 1) → UpSoFar o told left before later s u more
+up_sent o told mid left remaining before now later s t u number more num c placing was h acts same sent count =
     let n = nexted o told mid before now s t u number (next.Send num c) h acts same in
     record {
       k = n.k;
@@ -234,10 +244,10 @@ up_waits o told left before now s t u number h acts same =
     }
 
 -- a call went out, and had no reply that placed it
-pub up_failed : (o : Origin) (told mid left remaining before now later : Option (List ℕ)) (s t u : SeatValue PlacedAct Origin) (number num : ℕ) (c : Call) (error : PerformError)
-    → UpSoFar o told mid before now s t number → ActsAt o act.Next t (reply.Next (next.Send num c)) u → u.number ≡ t.number
-    → SentCall number (num, c) mid left remaining now later (Err error) → SentUp o (Some error) told remaining before later s u
-up_failed o told mid left remaining before now later s t u number num c error h acts same sent =
+pub up_failed : (o : Origin) (a b : Reader) (told mid left remaining before now later : Option (List ℕ)) (s t u : SeatValue PlacedAct Origin) (number num : ℕ) (c : Call) (e : PerformError)
+    → GoesWhole a told b mid → UpSoFar o told mid before now s t number → ActsAt o act.Next t (reply.Next (next.Send num c)) u → u.number ≡ t.number
+    → SentCall number (num, c) b.state mid left remaining now later (Err e) → SentUp o (Some e) told remaining before later s u
+up_failed o a b told mid left remaining before now later s t u number num c e whole h acts same sent =
     let n = nexted o told mid before now s t u number (next.Send num c) h acts same in
     record {
       k = n.k;
@@ -254,6 +264,7 @@ up_failed o told mid left remaining before now later s t u number num c error h 
       rest = sent.2;
       gave = gave_more told mid sent.2 h.replies sent.1 h.gave sent.3;
       held = sent.4;
+      whole = λ is all. cut_off a b told mid remaining h.replies whole h.gave (sent.7 (cc is) (all ∙ append-nil (call_line (num, c))));
       placed = h.placed;
       even = h.even;
       ends = inr ((num, c), refl, rw (← h.counted) sent.6);
@@ -280,6 +291,7 @@ up_done o told left remaining before now s t u number h acts same held =
       rest = left;
       gave = subst (λ l. GaveLines told l left) (sym (append-nil h.replies)) h.gave;
       held = held;
+      whole = λ is all. absurd cc;
       placed = h.placed;
       even = h.even;
       ends = (refl, refl, refl, n.quiet refl);
@@ -306,6 +318,7 @@ up_starved o told left remaining before now s t u number h further own same held
       rest = left;
       gave = subst (λ l. GaveLines told l left) (sym (append-nil h.replies)) h.gave;
       held = held;
+      whole = λ is all. absurd cc;
       placed = h.placed;
       even = h.even;
       ends = inl (refl, refl, refl, refl, wanting);
@@ -344,6 +357,7 @@ sent_kept o end told left before now left' now' s t h same_left same_now = recor
   rest = h.rest;
   gave = h.gave;
   held = subst (λ (r : Option (List ℕ)). IsHeldBack h.rest r) (sym same_left) h.held;
+  whole = λ is all. subst (λ (r : Option (List ℕ)). IsCutOff told h.replies r) (sym same_left) (h.whole is all);
   placed = h.placed;
   even = h.even;
   ends = subst (λ (r : Option (List ℕ)). UpEnds o t.seen (number_behind 2 h.replies) h.lost h.front h.last h.rest r end) (sym same_left) h.ends;

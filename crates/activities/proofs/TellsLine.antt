@@ -1,6 +1,6 @@
 -- What a reader's answer says of the bytes to come.
 use Rattle.std.proofs.Common.{◌≡◌, ℕ, List, [], ◌∷◌, ◌++◌, Option, None, Some, refl, sym, ap, ◌∙◌, subst, append_assoc, inl, inr}
-use Rattle.std.specs.Prelude.{◌⊎◌, IfSome, option_map, unwrap_or}
+use Rattle.std.specs.Prelude.{IfSome, option_map}
 use Rattle.troop_ports.specs.Bytes.{in_front}
 use Rattle.troop_ports.specs.Faults.{Counted}
 use Rattle.wire_lines.specs.Lines.{HasNoFeed, lines}
@@ -12,7 +12,7 @@ use Rattle.wire_lines.proofs.IsNextLine.{text_told, end_told, long_read, ends_st
 use Rattle.activities.specs.Lines.{coming, MayRead, GaveLines, IsHeldBack, TellsLine, CountsAnswer}
 
 -- what is to come are the bytes that are held and those that were taken, and then what remains
-held_first : (old : Reader) (taken : List ℕ) (remaining0 remaining1 : Option (List ℕ)) → remaining0 ≡ in_front taken remaining1
+pub held_first : (old : Reader) (taken : List ℕ) (remaining0 remaining1 : Option (List ℕ)) → remaining0 ≡ in_front taken remaining1
     → coming old remaining0 ≡ in_front (held_bytes old ++ taken) remaining1
 held_first old taken remaining0 None given = ap (in_front (held_bytes old)) given
 held_first old taken remaining0 (Some rest) given = ap (in_front (held_bytes old)) given ∙ ap Some (sym (append_assoc (held_bytes old) taken rest))

@@ -1,5 +1,5 @@
 -- What the down line took.
-use Rattle.std.proofs.Common.{◌≡◌, ℕ, Bool, true, false, List, [], ◌∷◌, ◌++◌, length, Option, None, Some, Result, Ok, Err, refl, sym, ap, ◌∙◌, subst, append_assoc, append-nil, length-append, inl, inr, ◌≤◌, ◌+◌, ◌-◌, ◌^◌, min, arith}
+use Rattle.std.proofs.Common.{◌≡◌, ℕ, Bool, true, false, List, [], ◌∷◌, ◌++◌, length, Option, None, Some, Result, Ok, Err, IfErr, refl, sym, ap, ◌∙◌, subst, append_assoc, append-nil, length-append, inl, inr, ◌≤◌, ◌+◌, ◌-◌, ◌^◌, min, arith}
 use Rattle.std.specs.Prelude.{is_none}
 use Rattle.seat_lock.specs.Lists.{Begins}
 use Rattle.seat_lock.specs.Values.{SeatValue}
@@ -7,7 +7,6 @@ use Rattle.troop_entry.specs.declared.block.Block.{Block}
 use Rattle.troop_entry.specs.declared.entry.Entry.{Entry}
 use Rattle.troop_entry.specs.Told.{block_told, is_leave_of}
 use Rattle.stage_state.specs.declared.act.Act.TheVariants as act
-use Rattle.stage_state.specs.declared.reply.ActReply.{ActReply}
 use Rattle.stage_state.specs.declared.reply.ActReply.TheVariants as reply
 use Rattle.stage_state.specs.declared.reply.TakeRefusal.{TakeRefusal}
 use Rattle.stage_state.specs.declared.reply.TakeRefusal.TheVariants as refusal
@@ -16,14 +15,15 @@ use Rattle.stage_state.specs.Origins.{machine_at}
 use Rattle.stage_state.specs.Machine.{Machine}
 use Rattle.stage_state.specs.Replies.{take_refusal, unless, accepts}
 use Rattle.block_queue.specs.declared.item.Item.{Item}
+use Rattle.troop_ports.specs.Faults.{next_count, Counted}
 use Rattle.wire_json.specs.Entries.{entry_of_line}
-use Rattle.activities.specs.Lines.{GaveLines, IsHeldBack, number_behind}
+use Rattle.activities.specs.Lines.{GaveLines, IsHeldBack, IsCutOff, number_behind}
 use Rattle.activities.specs.declared.down.TakenEntry.{TakenEntry}
 use Rattle.activities.specs.declared.errors.PerformError.{PerformError}
 use Rattle.activities.specs.declared.errors.PerformError.TheVariants as error
 use Rattle.activities.specs.Driving.{block_items}
 use Rattle.activities.specs.Down.{entry_takes, and_block, blocks_of, TookLines, TookEntry, TookLine, TookDown, HasLeftAt, IsUntaken, MayWant, DownEnds, longest_entry, refusal_error, end_of_leave}
-use Rattle.activities.specs.Counts.{CountsLink}
+use Rattle.activities.specs.Counts.{CountsLink, CountsResult}
 use Rattle.activities.proofs.FedSome.{block_items-append}
 use Rattle.activities.proofs.GaveLines.{gave_none, gave_more, mean_more, begins_same}
 use Rattle.activities.specs.Memory.{PlacedAct, placed_row, ActsAt}
@@ -109,6 +109,14 @@ refusal_counts number (refusal.BadPlace want got) n = refl
 refusal_counts number (refusal.NotSent at) n = refl
 refusal_counts number (refusal.BadBase want got) n = refl
 
+none_counted : Counted 0 0 → ⊥
+none_counted h = let rose : next_count 0 ≤ 0 = h.rose in absurd (omega (arith, rose))
+
+-- an answer that counts no fault is no fault of the link
+pub unfailed : {A : Type 0} (r : Result A PerformError) (X : Type 0) → CountsResult r 0 0 → IfErr r (λ e. e ≡ error.NetFault → X)
+unfailed (Ok x) X h = tt
+unfailed (Err e) X h = λ is. absurd (none_counted (subst (λ (x : PerformError). CountsLink x 0 0) is h))
+
 -- ---- the lines so far
 
 entry_takes-more : (n : ℕ) (es : List Entry) (e : Entry) → entry_takes n (es ++ e ∷ []) ≡ entry_takes n es ++ (n, act.Take e) ∷ []
@@ -171,25 +179,31 @@ down_more o told mid left remaining s t u before now later number next taken h s
 }
 
 -- the last line, if it was read, held no entry that was taken
-pub down_wrong : (o : Origin) (told mid left remaining : Option (List ℕ)) (s t u : SeatValue PlacedAct Origin) (before now : List Item) (number : ℕ) (error : PerformError)
-    → DownSoFar o told mid s t before now number → TookLine o number mid left remaining t u (Err error) → TookDown o (Some error) told remaining s u before now
-down_wrong o told mid left remaining s t u before now number error h line = record {
+pub down_wrong : (o : Origin) (told mid left remaining : Option (List ℕ)) (s t u : SeatValue PlacedAct Origin) (before now : List Item) (number : ℕ) (e : PerformError)
+    → (h : DownSoFar o told mid s t before now number) → (e ≡ error.NetFault → IsCutOff told h.given remaining) → TookLine o number mid left remaining t u (Err e)
+    → TookDown o (Some e) told remaining s u before now
+down_wrong o told mid left remaining s t u before now number e h whole line = record {
   given = h.given;
   entries = h.entries;
   last = line.0;
   rest = line.1;
   gave = gave_more told mid line.1 h.given line.0 h.gave line.2;
   held = line.3;
+  whole = λ is. whole (cc is);
   lines = record { mean = h.lines.mean; own = line.4 ∙ h.lines.own; pushed = h.lines.pushed };
   seen = u.seen;
   earlier = begins_same u.seen;
-  ends = inr (subst (λ n. IsUntaken o u.seen n error line.0 line.1 remaining) h.counted line.5);
+  ends = inr (subst (λ n. IsUntaken o u.seen n e line.0 line.1 remaining) h.counted line.5);
 }
 
 ends_left : (o : Origin) (seen : List PlacedAct) (given : List (List ℕ)) (entries : List Entry) (rest remaining : Option (List ℕ)) (at : ℕ) (b : Bool) → HasLeftAt o entries at → (machine_at o seen).gone ≡ true
     → (machine_at o seen).leave_sent ≡ b → DownEnds o seen given entries [] rest remaining (end_of_leave at b)
 ends_left o seen given entries rest remaining at true last gone sent = (refl, (at, last), gone, sent)
 ends_left o seen given entries rest remaining at false last gone sent = inl (refl, last, gone, sent)
+
+left_unfailed : (at : ℕ) (b : Bool) → end_of_leave at b ≡ Some error.NetFault → ⊥
+left_unfailed at true is = absurd cc
+left_unfailed at false is = absurd cc
 
 -- the own leave was taken
 pub down_left : (o : Origin) (told mid left remaining : Option (List ℕ)) (s t u v : SeatValue PlacedAct Origin) (before now later : List Item) (number : ℕ) (taken : TakenEntry) (end : Option PerformError)
@@ -207,6 +221,7 @@ down_left o told mid left remaining s t u v before now later number taken end h 
       rest = left;
       gave = subst (λ l. GaveLines told l left) (sym (append-nil given)) (gave_more told mid left h.given (line.0 ∷ []) h.gave line.2);
       held = held;
+      whole = λ is. absurd (left_unfailed taken.at (machine_at o v.seen).leave_sent (sym ends ∙ is));
       lines = record { mean = more.mean; own = own ∙ more.own; pushed = more.pushed };
       seen = v.seen;
       earlier = begins_same v.seen;

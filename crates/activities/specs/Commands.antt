@@ -1,5 +1,5 @@
 -- What the commands do and print.
-use Rattle.std.specs.Prelude.{◌≡◌, ◌⊎◌, ℕ, ◌+◌, ◌<◌, ◌≤◌, Bool, true, false, if◌then◌else◌, List, [], ◌∷◌, ◌++◌, length, Option, None, Some, Result, Ok, Err, IfSome}
+use Rattle.std.specs.Prelude.{◌≡◌, ◌⊎◌, ℕ, ◌+◌, ◌<◌, ◌≤◌, true, false, if◌then◌else◌, List, [], ◌∷◌, ◌++◌, length, Option, None, Some, Result, Ok, Err, IfSome}
 use Rattle.seat_lock.specs.Lists.{Begins}
 use Rattle.seat_lock.specs.Values.{SeatValue}
 use Rattle.troop_entry.specs.declared.reply.Reply.TheVariants as desk
@@ -25,7 +25,7 @@ use Rattle.activities.specs.declared.commands.Flow.{Flow}
 use Rattle.activities.specs.declared.commands.Flow.TheVariants as flow
 use Rattle.activities.specs.declared.errors.PerformError.{PerformError}
 use Rattle.activities.specs.declared.errors.PerformError.TheVariants as error
-use Rattle.activities.specs.Lines.{GaveLines, IsHeldBack, IsShortHeld, AreReadAs, number_behind}
+use Rattle.activities.specs.Lines.{GaveLines, IsHeldBack, IsCutOff, IsShortHeld, AreReadAs, number_behind}
 use Rattle.activities.specs.Memory.{PlacedAct, SeatMemory, seen_in, own_act, placed_row, SeesMore, Remembers}
 
 -- the longest line of commands, in bytes
@@ -285,7 +285,7 @@ CommandsEnd o number size name who seen last front rest remaining (Err (error.Ba
 CommandsEnd o number size name who seen last front rest remaining (Err (error.LongRequest bytes)) = ⊥
 CommandsEnd o number size name who seen last front rest remaining (Err error.Memory) = ((front ≡ []) × WantsMemory size last rest remaining) ⊎ CutLine o name who seen last front
 
--- all that the commands did, in order, and how they ended: `given` are the lines that were done, blank ones among them
+-- all that the commands did, in order, and how they ended: `given` are the lines that were done, blank ones among them, and where a read failed all that had come whole
 pub record RanCommands (o : Origin) (name : List ℕ) (who : ℕ) (end : Result Flow PerformError) (told remaining before now : Option (List ℕ)) (s t : SeatValue PlacedAct Origin) : Type 0 where
   pub k : SeatMemory
   pub remembers : Remembers k t
@@ -295,6 +295,7 @@ pub record RanCommands (o : Origin) (name : List ℕ) (who : ℕ) (end : Result 
   pub rest : Option (List ℕ)
   pub gave : GaveLines told (given ++ last) rest
   pub held : IsHeldBack rest remaining
+  pub whole : end ≡ Err error.ReadFault → IsCutOff told given remaining
   pub mean : AreReadAs command_of_line (spoken_lines given) commands
   pub within : lines_size given ≤ most_commands
   pub printed : List ℕ

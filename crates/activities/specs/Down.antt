@@ -23,7 +23,7 @@ use Rattle.activities.specs.declared.errors.What.TheVariants as what
 use Rattle.activities.specs.declared.errors.PerformError.{PerformError}
 use Rattle.activities.specs.declared.errors.PerformError.TheVariants as error
 use Rattle.activities.specs.Driving.{block_items}
-use Rattle.activities.specs.Lines.{GaveLines, IsHeldBack, WantsAtLine, AreReadAs, number_behind}
+use Rattle.activities.specs.Lines.{GaveLines, IsHeldBack, IsCutOff, WantsAtLine, AreReadAs, number_behind}
 use Rattle.activities.specs.Memory.{PlacedAct}
 
 -- the longest line that a performer reads on the down side, in bytes
@@ -142,7 +142,7 @@ DownEnds o seen given entries last rest remaining None =
     (last ≡ []) × ((at : ℕ) × HasLeftAt o entries at) × ((machine_at o seen).gone ≡ true) × ((machine_at o seen).leave_sent ≡ true)
 DownEnds o seen given entries last rest remaining (Some error) = IsDropped o seen entries last error ⊎ IsUntaken o seen (number_behind 1 given) error last rest remaining
 
--- all that the down line did: `given` are the lines whose entries were taken, `last` is the line, if one was read, whose entry wasn't, `rest` is what was to come
+-- all that the down line did: `given` are the lines whose entries were taken, and where a read failed all that had come whole, `last` is the line, if one was read, whose entry wasn't, `rest` is what was to come
 -- behind these, and `seen` are the acts at its end
 pub record TookDown (o : Origin) (end : Option PerformError) (told remaining : Option (List ℕ)) (s t : SeatValue PlacedAct Origin) (before now : List Item) : Type 0 where
   pub given : List (List ℕ)
@@ -151,6 +151,7 @@ pub record TookDown (o : Origin) (end : Option PerformError) (told remaining : O
   pub rest : Option (List ℕ)
   pub gave : GaveLines told (given ++ last) rest
   pub held : IsHeldBack rest remaining
+  pub whole : end ≡ Some error.NetFault → IsCutOff told given remaining
   pub lines : TookLines o given entries s t before now
   pub seen : List PlacedAct
   pub earlier : Begins seen t.seen

@@ -1,11 +1,12 @@
 -- Lines that were read one after the other, and what they mean.
-use Rattle.std.specs.Prelude.{◌≡◌, ◌⊎◌, ℕ, ◌+◌, ◌-◌, ◌^◌, ◌≤◌, min, List, [], ◌∷◌, ◌++◌, length, map, Option, None, Some, IfSome, option_map, Result, Ok, Err}
+use Rattle.std.specs.Prelude.{◌≡◌, ◌⊎◌, ℕ, ◌+◌, ◌-◌, ◌^◌, ◌≤◌, min, List, [], ◌∷◌, ◌++◌, length, map, All, Option, Some, IfSome, option_map, Result, Ok, Err}
 use Rattle.troop_ports.specs.Bytes.{in_front}
 use Rattle.troop_ports.specs.Faults.{Counted}
-use Rattle.wire_lines.specs.Lines.{lines}
+use Rattle.wire_lines.specs.Lines.{HasNoFeed, lines, whole_lines, with_feeds}
 use Rattle.wire_lines.specs.Reader.{Reader, held_bytes, IsLong}
 use Rattle.wire_lines.specs.declared.reader.Line.{Line}
 use Rattle.wire_lines.specs.declared.reader.Line.TheVariants as line
+use Rattle.wire_lines.specs.declared.reader.State.{State}
 use Rattle.wire_lines.specs.declared.reader.State.TheVariants as state
 use Rattle.wire_json.specs.declared.read.Read.{Read}
 use Rattle.wire_json.specs.declared.read.Read.TheVariants as read
@@ -27,6 +28,30 @@ GaveLines before given after = option_map lines before ≡ option_map (λ rest. 
 -- the bytes to come are some that the reader holds, and then those that remain of its source
 abbrev pub IsHeldBack : Option (List ℕ) → Option (List ℕ) → Type 0
 IsHeldBack rest remaining = (held : List ℕ) × (rest ≡ in_front held remaining)
+
+-- the lines given are exactly those that came whole in what was taken of the source before it failed
+abbrev pub IsCutOff : Option (List ℕ) → List (List ℕ) → Option (List ℕ) → Type 0
+IsCutOff told given remaining = IfSome told (λ _. (taken : List ℕ) × (told ≡ in_front taken remaining) × (whole_lines taken ≡ given))
+
+-- the bytes that were to come are whole lines, each with its line feed, and then these
+abbrev pub IsBehindLines : Option (List ℕ) → Option (List ℕ) → Type 0
+IsBehindLines told after = IfSome told (λ _. (given : List (List ℕ)) × All HasNoFeed given × (told ≡ in_front (with_feeds given) after))
+
+-- where the reader goes on now, it went on before, and only whole lines were taken from the bytes to come
+abbrev pub GoesWhole : Reader → Option (List ℕ) → Reader → Option (List ℕ) → Type 0
+GoesWhole old told new after = new.state ≡ state.Going → (old.state ≡ state.Going) × IsBehindLines told after
+
+-- the reader, which was in this state, went on, and no line came whole in what was taken before the source failed
+abbrev pub FailsBare : State → Option (List ℕ) → Option (List ℕ) → Type 0
+FailsBare was told remaining = (was ≡ state.Going) × IsCutOff told [] remaining
+
+-- what an answer of a reader says of whole lines, of the bytes that were to come, of the reader then, and of what remains then
+abbrev pub TellsWhole : Line → Reader → Option (List ℕ) → Reader → Option (List ℕ) → Type 0
+TellsWhole (line.Text text) old told new remaining = GoesWhole old told new (coming new remaining)
+TellsWhole line.End old told new remaining = Unit {0}
+TellsWhole line.Long old told new remaining = Unit {0}
+TellsWhole line.Fault old told new remaining = FailsBare old.state told remaining
+TellsWhole line.Memory old told new remaining = Unit {0}
 
 -- the same, where those that are held don't begin with a line over the limit
 abbrev pub IsShortHeld : ℕ → Option (List ℕ) → Option (List ℕ) → Type 0

@@ -1,5 +1,5 @@
 -- What the up line sends and reads.
-use Rattle.std.specs.Prelude.{◌≡◌, ◌⊎◌, ℕ, ◌+◌, ◌<◌, ◌≤◌, Bool, true, false, if◌then◌else◌, List, [], ◌∷◌, ◌++◌, length, Option, None, Some, IfSome, Result, Ok, Err}
+use Rattle.std.specs.Prelude.{◌≡◌, ◌⊎◌, ℕ, ◌+◌, ◌<◌, ◌≤◌, true, if◌then◌else◌, List, [], ◌∷◌, ◌++◌, length, Option, None, Some, IfSome, Result, Ok, Err}
 use Rattle.seat_lock.specs.Lists.{Begins, AllOf}
 use Rattle.seat_lock.specs.Values.{SeatValue}
 use Rattle.troop_entry.specs.declared.call.Call.{Call}
@@ -7,6 +7,7 @@ use Rattle.troop_entry.specs.declared.call.Request.TheVariants as request
 use Rattle.troop_entry.specs.declared.reply.Reply.TheVariants as desk
 use Rattle.troop_ports.specs.Bytes.{at_end}
 use Rattle.wire_lines.specs.Reader.{IsLong}
+use Rattle.wire_lines.specs.declared.reader.State.{State}
 use Rattle.wire_json.specs.declared.replies.WireReply.{WireReply}
 use Rattle.wire_json.specs.declared.replies.WireReply.TheVariants as wire
 use Rattle.wire_json.specs.Replies.{reply_of_line}
@@ -26,7 +27,7 @@ use Rattle.activities.specs.declared.errors.What.{What}
 use Rattle.activities.specs.declared.errors.What.TheVariants as what
 use Rattle.activities.specs.declared.errors.PerformError.{PerformError}
 use Rattle.activities.specs.declared.errors.PerformError.TheVariants as error
-use Rattle.activities.specs.Lines.{GaveLines, IsHeldBack, WantsAtLine, number_behind}
+use Rattle.activities.specs.Lines.{GaveLines, IsHeldBack, IsCutOff, FailsBare, WantsAtLine, number_behind}
 use Rattle.activities.specs.Memory.{PlacedAct, SeatMemory, Remembers}
 
 -- the longest line of a request that the server takes, and the longest reply that a performer reads, in bytes
@@ -117,7 +118,7 @@ IsWrongReplyOn side.Down what last rest = ⊥
 abbrev pub IsUnwritten : ℕ × Call → List ℕ → PerformError → Type 0
 IsUnwritten pair front error.ReadFault = ⊥
 IsUnwritten pair front error.WriteFault = ⊥
-IsUnwritten pair front error.NetFault = Begins front (call_line pair)
+IsUnwritten pair front error.NetFault = Begins front (call_line pair) × (length front < length (call_line pair))
 IsUnwritten pair front (error.BadInput line) = ⊥
 IsUnwritten pair front error.TooMuch = ⊥
 IsUnwritten pair front (error.Refused reply) = ⊥
@@ -156,12 +157,14 @@ ReadsReply number told after remaining (Ok placing) = (line : List ℕ) × GaveL
 ReadsReply number told after remaining (Err error) =
     (last : List (List ℕ)) × (rest : Option (List ℕ)) × GaveLines told last rest × IsHeldBack rest remaining × IsUnplaced number last rest remaining error
 
--- one call: its line was written, and the reply was read by which it was placed; or why not
-abbrev pub SentCall : ℕ → ℕ × Call → Option (List ℕ) → Option (List ℕ) → Option (List ℕ) → Option (List ℕ) → Option (List ℕ) → Result Placing PerformError → Type 0
-SentCall number pair told after remaining before now (Ok placing) =
+-- one call: its line was written, and the reply was read by which it was placed; or why not; where the read failed no line had come whole, and the reader, which was
+-- in this state, went on
+abbrev pub SentCall : ℕ → ℕ × Call → State → Option (List ℕ) → Option (List ℕ) → Option (List ℕ) → Option (List ℕ) → Option (List ℕ) → Result Placing PerformError → Type 0
+SentCall number pair was told after remaining before now (Ok placing) =
     (line : List ℕ) × GaveLines told (line ∷ []) after × TellsPlacing placing line × (now ≡ at_end before (call_line pair)) × FitsRequest pair
-SentCall number pair told after remaining before now (Err error) = (front : List ℕ) × (last : List (List ℕ)) × (rest : Option (List ℕ)) × GaveLines told last rest
-    × IsHeldBack rest remaining × (now ≡ at_end before front) × FailedCall number pair front last rest remaining error
+SentCall number pair was told after remaining before now (Err e) = (front : List ℕ) × (last : List (List ℕ)) × (rest : Option (List ℕ)) × GaveLines told last rest
+    × IsHeldBack rest remaining × (now ≡ at_end before front) × FailedCall number pair front last rest remaining e
+    × (e ≡ error.NetFault → front ≡ call_line pair → FailsBare was told remaining)
 
 -- ---- the whole line
 
@@ -177,7 +180,8 @@ UpEnds o seen number lost front last rest remaining (Some e) =
     ((lost ≡ []) × (front ≡ []) × (last ≡ []) × (e ≡ error.Memory) × (accepts (machine_at o seen) act.Next ≡ true))
     ⊎ ((pair : ℕ × Call) × (lost ≡ pair ∷ []) × FailedCall number pair front last rest remaining e)
 
--- all that the up line did: the calls that its acts sent were written, each with its reply read, but perhaps the last, `lost`
+-- all that the up line did: the calls that its acts sent were written, each with its reply read, but perhaps the last, `lost`; where a read failed behind it, the replies
+-- are all lines that had come whole
 pub record SentUp (o : Origin) (end : Option PerformError) (told remaining before now : Option (List ℕ)) (s t : SeatValue PlacedAct Origin) : Type 0 where
   pub k : SeatMemory
   pub remembers : Remembers k t
@@ -193,6 +197,7 @@ pub record SentUp (o : Origin) (end : Option PerformError) (told remaining befor
   pub rest : Option (List ℕ)
   pub gave : GaveLines told (replies ++ last) rest
   pub held : IsHeldBack rest remaining
+  pub whole : end ≡ Some error.NetFault → front ≡ call_lines lost → IsCutOff told replies remaining
   pub placed : AllOf TellsPlaced replies
   pub even : length replies ≡ length calls
   pub ends : UpEnds o t.seen (number_behind 2 replies) lost front last rest remaining end

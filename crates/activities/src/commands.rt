@@ -1,9 +1,9 @@
 //! The commands: what the performer types, line by line.
-ghost use Rattle.std.specs.Prelude.{◌≡◌, ◌≤◌, ◌<◌, ◌+◌, ◌-◌, ◌^◌, [], true, false, min, length, IfOk};
+ghost use Rattle.std.specs.Prelude.{◌≡◌, ◌≤◌, ◌<◌, ◌+◌, ◌-◌, ◌^◌, [], true, false, min, length, IfOk, IfErr};
 ghost use Rattle.activities.specs.Commands.{RanCommands, DidLine, longest_command, most_commands};
 ghost use Rattle.activities.specs.Counts.{CountsInput, CountsOutput};
 ghost use Rattle.activities.specs.Ending.{CommandsDone, FinishesStage, FinishesMemory, IsEnd, found_closed};
-ghost use Rattle.activities.specs.Lines.{coming, MayRead};
+ghost use Rattle.activities.specs.Lines.{coming, MayRead, GoesWhole, FailsBare};
 ghost use Rattle.activities.specs.Memory.{SeatMemory, Remembers, IsStageSeat, KeepsSeat, origin_at};
 
 use crate::asking::do_command;
@@ -148,6 +148,8 @@ fn do_line<C: Source, O: Sink, W: Wait>(
         × (reader.new.limit ≡ longest_command) }
     ensures did { (k : SeatMemory) → Remembers k seat.old → DidLine (origin_at hall.now) seat.old.number count.old.number name.now who k
         (coming reader.old (C.remaining commands.old)) (coming reader.new (C.remaining commands.new)) (C.remaining commands.new) count.old.size count.new.size (O.taken out.old) (O.taken out.new) seat.new result }
+    ensures whole { IfOk result (λ flow. flow ≡ Flow.On → GoesWhole reader.old (coming reader.old (C.remaining commands.old)) reader.new (coming reader.new (C.remaining commands.new))) }
+    ensures bare { IfErr result (λ error. error ≡ PerformError.ReadFault → FailsBare reader.old.state (coming reader.old (C.remaining commands.old)) (C.remaining commands.new)) }
     ensures number { IfOk result (λ flow. flow ≡ Flow.On → count.new.number ≡ min (count.old.number + 1) (2 ^ 64 - 1)) }
     ensures read_faults { CountsInput result (C.faults commands.old) (C.faults commands.new) }
     ensures write_faults { CountsOutput result (O.faults out.old) (O.faults out.new) }

@@ -1,5 +1,5 @@
 //! The down line: it takes the entries that the server tells.
-ghost use Rattle.std.specs.Prelude.{◌≡◌, [], ◌∷◌, ◌++◌, ℕ, true, false, IfOk};
+ghost use Rattle.std.specs.Prelude.{◌≡◌, [], ◌∷◌, ◌++◌, ℕ, true, false, IfOk, IfErr};
 ghost use Rattle.troop_entry.specs.Told.{is_leave_of};
 ghost use Rattle.block_queue.specs.Values.{IsEndOf};
 ghost use Rattle.stage_state.specs.Origins.{machine_at};
@@ -9,7 +9,7 @@ ghost use Rattle.activities.specs.Counts.{CountsResult, CountsActivity};
 ghost use Rattle.activities.specs.Down.{TookLine, TookEntry, TookDown, longest_entry, refusal_error, end_of_leave, and_block};
 ghost use Rattle.activities.specs.Driving.{block_items};
 ghost use Rattle.activities.specs.Ending.{DownDone};
-ghost use Rattle.activities.specs.Lines.{coming, MayRead};
+ghost use Rattle.activities.specs.Lines.{coming, MayRead, GoesWhole, FailsBare};
 ghost use Rattle.activities.specs.Memory.{IsStageSeat, KeepsSeat, origin_at};
 
 use crate::ending::halt_at;
@@ -160,6 +160,8 @@ fn take_line<L: Link, W: Wait>(
     ensures still_open { (L.Source.closed link.new ≡ false) × IfOk result (λ _. MayRead reader.new (L.Source.remaining link.new)) × (reader.new.limit ≡ longest_entry) }
     ensures took { TookLine (origin_at hall.now) number (coming reader.old (L.Source.remaining link.old)) (coming reader.new (L.Source.remaining link.new)) (L.Source.remaining link.new)
         seat.old seat.new result }
+    ensures whole { IfOk result (λ _. GoesWhole reader.old (coming reader.old (L.Source.remaining link.old)) reader.new (coming reader.new (L.Source.remaining link.new))) }
+    ensures bare { IfErr result (λ error. error ≡ PerformError.NetFault → FailsBare reader.old.state (coming reader.old (L.Source.remaining link.old)) (L.Source.remaining link.new)) }
     ensures written { L.Source.taken_beside link.new ≡ L.Source.taken_beside link.old }
     ensures faults { CountsResult result (L.Source.faults link.old) (L.Source.faults link.new) }
 {

@@ -1,6 +1,6 @@
 //! Lines of a source, one after the other, and what their readers answer.
 ghost use Rattle.std.specs.Prelude.{◌≡◌, false};
-ghost use Rattle.activities.specs.Lines.{coming, MayRead, TellsLine, CountsAnswer, value_or};
+ghost use Rattle.activities.specs.Lines.{coming, MayRead, TellsLine, TellsWhole, CountsAnswer, value_or};
 
 use crate::errors::PerformError;
 use troop_ports::Source;
@@ -12,6 +12,7 @@ pub(crate) fn next_line<S: Source>(reader: &mut LineReader, source: &mut S) -> L
     requires is_open { S.closed source.old ≡ false }
     requires may { MayRead reader.old (S.remaining source.old) }
     ensures line { TellsLine result reader.old.limit (coming reader.old (S.remaining source.old)) reader.new (S.remaining source.new) }
+    ensures whole { TellsWhole result reader.old (coming reader.old (S.remaining source.old)) reader.new (S.remaining source.new) }
     ensures cause { CountsAnswer result (S.faults source.old) (S.faults source.new) }
     ensures beside { S.taken_beside source.new ≡ S.taken_beside source.old }
     ensures still_open { S.closed source.new ≡ false }

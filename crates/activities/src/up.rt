@@ -1,10 +1,10 @@
 //! The up line: it sends the calls that go out, and reads a reply to each.
-ghost use Rattle.std.specs.Prelude.{◌≡◌, [], true, false, IfOk};
+ghost use Rattle.std.specs.Prelude.{◌≡◌, [], true, false, IfOk, IfErr};
 ghost use Rattle.activities.specs.declared.errors.PerformError.TheVariants as PerformError;
 ghost use Rattle.activities.specs.declared.errors.Side.TheVariants as Side;
 ghost use Rattle.activities.specs.Counts.{CountsResult, CountsActivity};
 ghost use Rattle.activities.specs.Ending.{UpDone};
-ghost use Rattle.activities.specs.Lines.{coming, MayRead};
+ghost use Rattle.activities.specs.Lines.{coming, MayRead, GoesWhole, FailsBare};
 ghost use Rattle.activities.specs.Memory.{IsStageSeat, KeepsSeat, origin_at};
 ghost use Rattle.activities.specs.Up.{SentCall, WroteCall, ReadsReply, SentUp, longest_request, placing_of, placed_or_refused};
 
@@ -108,8 +108,9 @@ pub fn send_call<L: Link>(
 ) -> Result<Placing, PerformError>
     requires is_open { (L.Source.closed link.old ≡ false) × MayRead reader.old (L.Source.remaining link.old) × (reader.old.limit ≡ longest_request) }
     ensures still_open { (L.Source.closed link.new ≡ false) × IfOk result (λ _. MayRead reader.new (L.Source.remaining link.new)) × (reader.new.limit ≡ longest_request) }
-    ensures sent { SentCall number (num, call) (coming reader.old (L.Source.remaining link.old)) (coming reader.new (L.Source.remaining link.new)) (L.Source.remaining link.new)
+    ensures sent { SentCall number (num, call) reader.old.state (coming reader.old (L.Source.remaining link.old)) (coming reader.new (L.Source.remaining link.new)) (L.Source.remaining link.new)
         (L.Sink.taken link.old) (L.Sink.taken link.new) result }
+    ensures whole { IfOk result (λ _. GoesWhole reader.old (coming reader.old (L.Source.remaining link.old)) reader.new (coming reader.new (L.Source.remaining link.new))) }
     ensures faults { CountsResult result (L.Source.faults link.old) (L.Source.faults link.new) }
 {
     match write_call(alloc, link, num, call) {
@@ -155,6 +156,8 @@ fn read_placing<L: Link>(
     requires is_open { (L.Source.closed link.old ≡ false) × MayRead reader.old (L.Source.remaining link.old) × (reader.old.limit ≡ longest_request) }
     ensures still_open { (L.Source.closed link.new ≡ false) × IfOk result (λ _. MayRead reader.new (L.Source.remaining link.new)) × (reader.new.limit ≡ longest_request) }
     ensures read { ReadsReply number (coming reader.old (L.Source.remaining link.old)) (coming reader.new (L.Source.remaining link.new)) (L.Source.remaining link.new) result }
+    ensures whole { IfOk result (λ _. GoesWhole reader.old (coming reader.old (L.Source.remaining link.old)) reader.new (coming reader.new (L.Source.remaining link.new))) }
+    ensures bare { IfErr result (λ error. error ≡ PerformError.NetFault → FailsBare reader.old.state (coming reader.old (L.Source.remaining link.old)) (L.Source.remaining link.new)) }
     ensures written { L.Source.taken_beside link.new ≡ L.Source.taken_beside link.old }
     ensures faults { CountsResult result (L.Source.faults link.old) (L.Source.faults link.new) }
 {

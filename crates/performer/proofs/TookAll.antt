@@ -171,6 +171,7 @@ took_all o acts c u d s end told left pushed popped rest starved old new every o
       rest = down.took.rest;
       gave = down.took.gave;
       held = down.took.held;
+      whole = down.took.whole;
       mean = down.took.lines.mean;
       taken = taken_is;
       seen = down.took.seen;
@@ -206,6 +207,7 @@ sent_all o acts c u d s end told left before now every own_c own_u own_d plain n
       rest = up.sent.rest;
       gave = up.sent.gave;
       held = up.sent.held;
+      whole = up.sent.whole;
       placed = up.sent.placed;
       even = up.sent.even;
       seen = up.u.seen;
@@ -275,6 +277,7 @@ typed_from o acts f s name who end told left before now n same later h marked ow
       rest = r.rest;
       gave = r.gave;
       held = r.held;
+      whole = r.whole;
       mean = r.mean;
       within = r.within;
       printed = r.printed;

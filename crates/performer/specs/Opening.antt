@@ -6,6 +6,7 @@ use Rattle.troop_entry.specs.declared.call.Call.TheVariants as call
 use Rattle.troop_entry.specs.declared.call.Lang.{Lang}
 use Rattle.troop_entry.specs.declared.call.Request.TheVariants as request
 use Rattle.troop_ports.specs.Bytes.{at_end}
+use Rattle.wire_lines.specs.declared.reader.State.TheVariants as state
 use Rattle.wire_print.specs.Printed.{printed_line, request_data}
 use Rattle.activities.specs.declared.errors.PerformError.{PerformError}
 use Rattle.activities.specs.declared.errors.PerformError.TheVariants as error
@@ -43,8 +44,8 @@ WroteDown who before now (Err error) = (front : List ℕ) × (now ≡ at_end bef
 -- was wanting behind them
 abbrev pub OpeningFails : List ℕ → Lang → PerformError → Option (List ℕ) → Option (List ℕ) → Option (List ℕ) → Option (List ℕ) → Option (List ℕ) → Option (List ℕ) → Type 0
 OpeningFails name lang cause told remaining before now down_before down_now =
-    (SentCall 1 (join_pair name lang) told told remaining before now (Err cause) × (down_now ≡ down_before))
-    ⊎ ((placing : Placing) × (rest : Option (List ℕ)) × SentCall 1 (join_pair name lang) told rest remaining before now (Ok placing)
+    (SentCall 1 (join_pair name lang) state.Going told told remaining before now (Err cause) × (down_now ≡ down_before))
+    ⊎ ((placing : Placing) × (rest : Option (List ℕ)) × SentCall 1 (join_pair name lang) state.Going told rest remaining before now (Ok placing)
     × (WroteDown placing.who down_before down_now (Err cause) ⊎ (WroteDown placing.who down_before down_now (Ok tt) × (cause ≡ error.Memory))))
 
 -- a fault of the net is one of one link, and the other's count is as it was

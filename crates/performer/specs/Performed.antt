@@ -19,16 +19,17 @@ use Rattle.stage_state.specs.Staged.{Staged}
 use Rattle.activities.specs.declared.commands.Flow.{Flow}
 use Rattle.activities.specs.declared.commands.Flow.TheVariants as flow
 use Rattle.activities.specs.declared.errors.PerformError.{PerformError}
+use Rattle.activities.specs.declared.errors.PerformError.TheVariants as error
 use Rattle.activities.specs.Commands.{RunsCommands, CommandsEnd, spoken_lines, lines_size, most_commands}
 use Rattle.activities.specs.Down.{entry_takes, blocks_of, DownEnds}
 use Rattle.activities.specs.Driving.{ToldDriver, block_items, FedSome, IsToldOf}
-use Rattle.activities.specs.Lines.{GaveLines, IsHeldBack, AreReadAs, number_behind}
+use Rattle.activities.specs.Lines.{GaveLines, IsHeldBack, IsCutOff, AreReadAs, number_behind}
 use Rattle.activities.specs.Memory.{PlacedAct, SeatMemory, own_in, placed_row, SeesMore}
 use Rattle.activities.specs.Up.{call_line, call_lines, FitsRequest, TellsPlaced, TellsPlacing, UpEnds, IsNextAct}
 use Rattle.performer.specs.Opening.{join_pair}
 use Rattle.performer.specs.Joined.{picked, entry_in, ask_in, acts_by, marked_by}
 
--- the entries taken are those of the lines read, in order, and their blocks were popped and fed
+-- the entries taken are those of the lines read, in order, and their blocks were popped and fed; where a read failed these are all lines that had come whole
 pub record TookAll (o : Origin) (acts : List PlacedAct) (end : Option PerformError) (told remaining : Option (List ℕ)) (popped : List Item) (starved : Bool) (old new : ToldDriver) : Type 0 where
   pub given : List (List ℕ)
   pub entries : List Entry
@@ -36,6 +37,7 @@ pub record TookAll (o : Origin) (acts : List PlacedAct) (end : Option PerformErr
   pub rest : Option (List ℕ)
   pub gave : GaveLines told (given ++ last) rest
   pub held : IsHeldBack rest remaining
+  pub whole : end ≡ Some error.NetFault → IsCutOff told given remaining
   pub mean : AreReadAs entry_of_line given entries
   pub taken : picked entry_in acts ≡ entries
   pub seen : List PlacedAct
@@ -45,7 +47,8 @@ pub record TookAll (o : Origin) (acts : List PlacedAct) (end : Option PerformErr
   pub fed : FedSome starved (blocks_of o.joined entries) old new
   pub rise : IsRising fed.fed
 
--- the calls that the acts sent were written, under their numbers and in order, each with its reply, but perhaps the last; none of them was longer than the server takes
+-- the calls that the acts sent were written, under their numbers and in order, each with its reply, but perhaps the last; none of them was longer than the server takes; where a read failed
+-- behind the last, the replies are all lines that had come whole
 pub record SentAll (o : Origin) (acts : List PlacedAct) (end : Option PerformError) (told remaining before now : Option (List ℕ)) : Type 0 where
   pub calls : List (ℕ × Call)
   pub lost : List (ℕ × Call)
@@ -58,6 +61,7 @@ pub record SentAll (o : Origin) (acts : List PlacedAct) (end : Option PerformErr
   pub rest : Option (List ℕ)
   pub gave : GaveLines told (replies ++ last) rest
   pub held : IsHeldBack rest remaining
+  pub whole : end ≡ Some error.NetFault → front ≡ call_lines lost → IsCutOff told replies remaining
   pub placed : AllOf TellsPlaced replies
   pub even : length replies ≡ length calls
   pub seen : List PlacedAct
@@ -72,7 +76,7 @@ FinishBehind (Ok flow.Closed) n own acts = acts_by n acts ≡ own
 FinishBehind (Err e) n own acts = acts_by n acts ≡ own ++ (n, act.Finish) ∷ []
 
 -- the commands read were done, in order: each met the machine at a front of the acts, with the seat's own acts of exactly the commands before it, and so did the line behind them at which they
--- ended; of all acts the seat's own are those of the commands done, and then the finish
+-- ended; of all acts the seat's own are those of the commands done, and then the finish; where a read failed the lines done are all that had come whole
 pub record TypedAll (o : Origin) (acts : List PlacedAct) (number : ℕ) (name : List ℕ) (who : ℕ) (end : Result Flow PerformError) (told remaining before now : Option (List ℕ)) : Type 0 where
   pub given : List (List ℕ)
   pub commands : List Command
@@ -80,6 +84,7 @@ pub record TypedAll (o : Origin) (acts : List PlacedAct) (number : ℕ) (name : 
   pub rest : Option (List ℕ)
   pub gave : GaveLines told (given ++ last) rest
   pub held : IsHeldBack rest remaining
+  pub whole : end ≡ Err error.ReadFault → IsCutOff told given remaining
   pub mean : AreReadAs command_of_line (spoken_lines given) commands
   pub within : lines_size given ≤ most_commands
   pub printed : List ℕ

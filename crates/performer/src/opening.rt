@@ -23,7 +23,7 @@ pub(crate) fn open_up<L: Link>(
 ) -> Result<Placing, PerformError>
     requires is_open { (L.Source.closed link.old ≡ false) × MayRead reader.old (L.Source.remaining link.old) × (reader.old.limit ≡ longest_request) }
     ensures still_open { (L.Source.closed link.new ≡ false) × IfOk result (λ _. MayRead reader.new (L.Source.remaining link.new)) × (reader.new.limit ≡ longest_request) }
-    ensures sent { SentCall 1 (join_pair name.now lang) (coming reader.old (L.Source.remaining link.old)) (coming reader.new (L.Source.remaining link.new)) (L.Source.remaining link.new)
+    ensures sent { SentCall 1 (join_pair name.now lang) reader.old.state (coming reader.old (L.Source.remaining link.old)) (coming reader.new (L.Source.remaining link.new)) (L.Source.remaining link.new)
         (L.Sink.taken link.old) (L.Sink.taken link.new) result }
     ensures faults { CountsResult result (L.Source.faults link.old) (L.Source.faults link.new) }
 {

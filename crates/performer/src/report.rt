@@ -73,7 +73,7 @@ impl<H: Hatch> Report<H> {
     }
 }
 
-/// Joins, asks for all entries, and runs the four activities until each has ended. `Err` comes from the opening alone, and hands the driver back.
+/// Joins, asks for all entries, and runs the four activities until each has ended. `Err` comes from the opening, or from want of memory right behind it, and hands the driver back.
 pub fn perform<
     C: Source + Send,
     L: Link + Send,

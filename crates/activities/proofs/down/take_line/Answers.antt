@@ -1,6 +1,7 @@
-use Rattle.std.proofs.Common.{◌≡◌, ℕ, [], inl, refl, sym, subst}
+use Rattle.std.proofs.Common.{ℕ, [], inl, refl, sym, subst}
 use Rattle.activities.specs.Counts.{CountsResult}
 use Rattle.activities.proofs.GaveLines.{gave_none}
+use Rattle.activities.proofs.TookDown.{unfailed}
 use Rattle.activities.proofs.down.take_line.Goals as goal
 
 pub returns-in-End-clause-took : goal.returns-in-End-clause-took
@@ -19,3 +20,6 @@ pub returns-in-Ok-clause-faults : goal.returns-in-Ok-clause-faults
 returns-in-Ok-clause-faults g c =
     let before = g.L.Source.faults c.args.link.now in
     subst (λ (n : ℕ). CountsResult c.take_entry.result before n) (sym c.in-Text.ensures.cause) (c.take_entry.ensures.faults before)
+
+pub returns-in-Ok-clause-bare : goal.returns-in-Ok-clause-bare
+returns-in-Ok-clause-bare g c = unfailed c.take_entry.result _ (c.take_entry.ensures.faults 0)

@@ -5,6 +5,7 @@ use Rattle.activities.specs.Lines.{coming}
 use Rattle.activities.specs.Memory.{origin_at}
 use Rattle.activities.proofs.GaveLines.{begins_on, begins_same}
 use Rattle.activities.proofs.Remembers.{same_card}
+use Rattle.activities.proofs.IsCutOff.{whole_none, whole_more, cut_off}
 use Rattle.activities.proofs.TookDown.{down_none, down_more, down_wrong, down_left}
 use Rattle.activities.proofs.down.take_lines.Goals as goal
 
@@ -14,6 +15,7 @@ loop-init g c = record {
   open_still = c.requires.is_open;
   queue = c.requires.queue;
   down = down_none (origin_at c.args.hall.now) _ c.args.seat.now c.args.feeder.now.items;
+  whole = whole_none c.args.reader.now _;
   written = search rules;
   faults = search rules;
 }
@@ -35,6 +37,7 @@ loop-preserved g c =
       open_still = e;
       queue = c.push_block.ensures.queue;
       down = down_more (origin_at c.args.hall.now) _ _ _ (g.L.Source.remaining c.take_line.new.link) c.args.seat.now c.loop.seat c.take_line.new.seat _ _ _ _ _ c.in-Ok.taken i.down i.seat.1.number c.in-Ok.ensures.took c.push_block.ensures.pushed c.saturating_add-number.ensures;
+      whole = whole_more c.args.reader.now c.loop.reader c.take_line.new.reader _ _ _ i.whole c.in-Ok.ensures.whole;
       written = c.in-Ok.ensures.written ∙ i.written;
       faults = c.in-Ok.ensures.faults ∙ i.faults;
     }
@@ -42,7 +45,8 @@ loop-preserved g c =
 pub returns-in-Err-clause-took : goal.returns-in-Err-clause-took
 returns-in-Err-clause-took g c =
     let i = c.loop.invariant in
-    down_wrong (origin_at c.args.hall.now) _ _ (coming c.take_line.new.reader (g.L.Source.remaining c.take_line.new.link)) _ c.args.seat.now c.loop.seat c.take_line.new.seat _ _ _ c.in-Err.error i.down c.in-Err.ensures.took
+    down_wrong (origin_at c.args.hall.now) _ _ (coming c.take_line.new.reader (g.L.Source.remaining c.take_line.new.link)) _ c.args.seat.now c.loop.seat c.take_line.new.seat _ _ _ c.in-Err.error i.down
+    (λ is. cut_off c.args.reader.now c.loop.reader _ _ _ i.down.given i.whole i.down.gave (c.in-Err.ensures.bare is)) c.in-Err.ensures.took
 
 pub returns-then-taken-clause-faults : goal.returns-then-taken-clause-faults
 returns-then-taken-clause-faults g c =

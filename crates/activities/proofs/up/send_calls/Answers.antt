@@ -4,6 +4,7 @@ use Rattle.activities.specs.Lines.{coming}
 use Rattle.activities.specs.Memory.{origin_at}
 use Rattle.activities.proofs.GaveLines.{begins_on, begins_same}
 use Rattle.activities.proofs.Remembers.{same_card}
+use Rattle.activities.proofs.IsCutOff.{whole_none, whole_more}
 use Rattle.activities.proofs.SentUp.{up_none, up_looked, up_sent, up_waits, up_failed, up_done, up_starved}
 use Rattle.activities.proofs.up.send_calls.Goals as goal
 
@@ -12,6 +13,7 @@ loop-init g c = record {
   seat = (c.requires.seat.0, search rules, begins_same c.args.seat.now.seen);
   open_still = c.requires.is_open;
   up = up_none (origin_at c.args.hall.now) _ _ c.args.seat.now c.requires.seat.1 c.requires.seat.2;
+  whole = whole_none c.args.reader.now _;
   faults = search rules;
 }
 
@@ -21,8 +23,8 @@ returns-in-Err-send_call-clause-sent g c =
     let l = c.count_acts-acts.ensures in
     let up = up_looked (origin_at c.args.hall.now) _ _ _ _ c.args.seat.now c.loop.seat c.count_acts-acts.new.seat _ i.up l.seat.2 l.own l.seat.1.number in
     let acts = rw (c.in-Ok-Next-Send.field-0-is, c.in-Ok-Next-Send.field-0-0-is) at c.in-Ok-Next-Send.ensures.ok in
-    up_failed (origin_at c.args.hall.now) _ _ (coming c.send_call.new.reader (g.L.Source.remaining c.send_call.new.link)) _ _ _ _ c.args.seat.now c.count_acts-acts.new.seat c.play.new.seat _ _ c.in-Ok-Next-Send.call c.in-Err-send_call.error
-    up acts c.in-Ok-Next-Send.ensures.seat.1.number c.in-Err-send_call.ensures.sent
+    up_failed (origin_at c.args.hall.now) c.args.reader.now c.loop.reader _ _ (coming c.send_call.new.reader (g.L.Source.remaining c.send_call.new.link)) _ _ _ _ c.args.seat.now c.count_acts-acts.new.seat c.play.new.seat _ _ c.in-Ok-Next-Send.call c.in-Err-send_call.error
+    i.whole up acts c.in-Ok-Next-Send.ensures.seat.1.number c.in-Err-send_call.ensures.sent
 
 pub loop-preserved-in-Ok-send_call : goal.loop-preserved-in-Ok-send_call
 loop-preserved-in-Ok-send_call g c =
@@ -34,8 +36,9 @@ loop-preserved-in-Ok-send_call g c =
     record {
       seat = (s.0, same_card _ _ _ i.seat.1 (same_card _ _ _ l.seat.1 s.1), begins_on _ _ _ i.seat.2 (begins_on _ _ _ l.seat.2 s.2));
       open_still = c.in-Ok-send_call.ensures.still_open;
-      up = up_sent (origin_at c.args.hall.now) _ _ _ (g.L.Source.remaining c.send_call.new.link) _ _ _ c.args.seat.now c.count_acts-acts.new.seat c.play.new.seat _ _ _ c.in-Ok-Next-Send.call _ up acts s.1.number
+      up = up_sent (origin_at c.args.hall.now) _ _ _ (g.L.Source.remaining c.send_call.new.link) _ _ _ c.args.seat.now c.count_acts-acts.new.seat c.play.new.seat _ _ _ c.in-Ok-Next-Send.call _ c.loop.reader.state up acts s.1.number
           c.in-Ok-send_call.ensures.sent c.saturating_add-number.ensures;
+      whole = whole_more c.args.reader.now c.loop.reader c.send_call.new.reader _ _ _ i.whole c.in-Ok-send_call.ensures.whole;
       faults = c.in-Ok-send_call.ensures.faults ∙ i.faults;
     }
 
@@ -52,6 +55,7 @@ loop-preserved g c =
       seat = (w.seat.0, same_card _ _ _ i.seat.1 (same_card _ _ _ l.seat.1 (same_card _ _ _ s.1 w.seat.1)), begins_on _ _ _ i.seat.2 (begins_on _ _ _ l.seat.2 (begins_on _ _ _ s.2 w.seat.2)));
       open_still = i.open_still;
       up = up_looked (origin_at c.args.hall.now) _ _ _ _ c.args.seat.now c.play.new.seat c.wait_past.new.seat _ waits w.seat.2 w.own w.seat.1.number;
+      whole = i.whole;
       faults = i.faults;
     }
 

@@ -8,5 +8,5 @@ use Rattle.performer.proofs.opening.open_up.Goals as goal
 
 pub returns-in_default-clause-sent : goal.returns-in_default-clause-sent
 returns-in_default-clause-sent g c =
-    call_unwritten 1 (join_pair c.args.name.now c.args.lang) _ (coming c.args.reader.now (g.L.Source.remaining c.args.link.now)) _ _ _ error.Memory
+    call_unwritten 1 (join_pair c.args.name.now c.args.lang) _ _ (coming c.args.reader.now (g.L.Source.remaining c.args.link.now)) _ _ _ error.Memory
     (held_bytes c.args.reader.now, refl) ([], nothing_written _, refl)

@@ -1,6 +1,8 @@
 use Rattle.std.proofs.Common.{◌≡◌, ℕ, Bool, List, [], ◌∷◌, Option, Ok, Err, refl, sym, ap, ◌∙◌, subst, inl, inr}
 use Rattle.block_queue.specs.declared.item.Item.{Item}
 use Rattle.troop_ports.specs.Bytes.{at_end}
+use Rattle.wire_lines.specs.declared.reader.State.{State}
+use Rattle.wire_lines.specs.declared.reader.State.TheVariants as state
 use Rattle.stage_state.specs.declared.played.Origin.{Origin}
 use Rattle.stage_state.specs.Origins.{origin_of}
 use Rattle.activities.specs.declared.errors.PerformError.{PerformError}
@@ -22,7 +24,8 @@ returns-in-Err-clause-err g c =
     let join = join_pair c.args.name.now c.args.lang in (
       refl,
       inl (
-        subst (λ (t : Option (List ℕ)). SentCall 1 join t told (g.L.Source.remaining c.open_up.new.link) (g.L.Sink.taken c.args.up.now) (g.L.Sink.taken c.open_up.new.link) (Err c.in-Err.error)) new
+        subst (λ (x : State × Option (List ℕ)). SentCall 1 join x.0 x.1 told (g.L.Source.remaining c.open_up.new.link) (g.L.Sink.taken c.args.up.now) (g.L.Sink.taken c.open_up.new.link) (Err c.in-Err.error))
+            (λ i. (ap (λ r. r.state) c.new-up_reader.ensures i, new i))
             c.in-Err.ensures.sent,
         refl,
       ),
@@ -38,7 +41,7 @@ returns-in-Err-open_down-clause-err g c =
       inr (
         c.in-Ok.placing,
         rest,
-        subst (λ (t : Option (List ℕ)). SentCall 1 join t rest (g.L.Source.remaining c.open_up.new.link) (g.L.Sink.taken c.args.up.now) (g.L.Sink.taken c.open_up.new.link) (Ok c.in-Ok.placing)) new c.in-Ok.ensures.sent,
+        subst (λ (t : Option (List ℕ)). SentCall 1 join state.Going t rest (g.L.Source.remaining c.open_up.new.link) (g.L.Sink.taken c.args.up.now) (g.L.Sink.taken c.open_up.new.link) (Ok c.in-Ok.placing)) new c.in-Ok.ensures.sent,
         inl c.in-Err-open_down.ensures.wrote,
       ),
     )
@@ -53,7 +56,7 @@ returns-in_default-clause-err g c =
       inr (
         c.in-Ok.placing,
         rest,
-        subst (λ (t : Option (List ℕ)). SentCall 1 join t rest (g.L.Source.remaining c.open_up.new.link) (g.L.Sink.taken c.args.up.now) (g.L.Sink.taken c.open_up.new.link) (Ok c.in-Ok.placing)) new c.in-Ok.ensures.sent,
+        subst (λ (t : Option (List ℕ)). SentCall 1 join state.Going t rest (g.L.Source.remaining c.open_up.new.link) (g.L.Sink.taken c.args.up.now) (g.L.Sink.taken c.open_up.new.link) (Ok c.in-Ok.placing)) new c.in-Ok.ensures.sent,
         inr (c.in-Ok-open_down.ensures.wrote, refl),
       ),
     )
@@ -71,7 +74,7 @@ returns-clause-err g c =
           (inr (
             c.in-Ok.placing,
             rest,
-            subst (λ (t : Option (List ℕ)). SentCall 1 join t rest (g.L.Source.remaining c.open_up.new.link) (g.L.Sink.taken c.args.up.now) (g.L.Sink.taken c.open_up.new.link) (Ok c.in-Ok.placing)) new c.in-Ok.ensures.sent,
+            subst (λ (t : Option (List ℕ)). SentCall 1 join state.Going t rest (g.L.Source.remaining c.open_up.new.link) (g.L.Sink.taken c.args.up.now) (g.L.Sink.taken c.open_up.new.link) (Ok c.in-Ok.placing)) new c.in-Ok.ensures.sent,
             inr (c.in-Ok-open_down.ensures.wrote, refl),
           )),
     )
