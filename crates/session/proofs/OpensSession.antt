@@ -1,13 +1,15 @@
 -- A session from its first line.
-use Rattle.std.proofs.Common.{◌≡◌, inl, inr, ⊎_elim, ℕ, ◌≤◌, false, List, [], ◌∷◌, ◌++◌, length, refl, sym, ap, ◌∙◌, subst, Option, Some, None, IfSome}
+use Rattle.std.proofs.Common.{◌≡◌, ◌⊎◌, inl, inr, ⊎_elim, ℕ, ◌≤◌, false, List, [], ◌∷◌, ◌++◌, length, refl, sym, ap, ◌∙◌, subst, Option, Some, None, IfSome, append_assoc}
 use Rattle.std.specs.Prelude.{Vec}
 use Rattle.std.specs.declared.alloc.Global.{Global}
 use Rattle.std.proofs.lemmas.List.{append-nil}
 use Rattle.troop_entry.specs.declared.row.Row.{Row}
 use Rattle.troop_ports.specs.Bytes.{in_front}
 use Rattle.troop_hall.specs.Seats.{DeskSeatValue}
-use Rattle.wire_lines.specs.Lines.{lines}
-use Rattle.wire_lines.specs.Reader.{Reader, ReadsLine, IsNextLine}
+use Rattle.std.proofs.lemmas.List.Elements.{All-nil}
+use Rattle.wire_lines.specs.Lines.{lines, line_feed, HasNoFeed}
+use Rattle.wire_lines.specs.Reader.{Reader, held_bytes, EndsLine, ReadsLine, IsNextLine}
+use Rattle.wire_lines.proofs.LinesArePieces.{whole_are_pieces}
 use Rattle.wire_lines.specs.declared.reader.State.TheVariants as state
 use Rattle.wire_lines.specs.declared.reader.Line.{Line}
 use Rattle.wire_lines.specs.declared.reader.Line.TheVariants as line
@@ -21,9 +23,9 @@ use Rattle.session.specs.Printed.{request_of, reply_line}
 use Rattle.session.specs.Ends.{Wires, Wrote, stream, wires}
 use Rattle.session.specs.UpLines.{HasAttended}
 use Rattle.session.specs.DownLines.{DownLine, SnapLine}
-use Rattle.session.specs.Sessions.{First, line_limit, service_asked, OpensSession, OpensBehind, IsBehind, IsSilent, IsRefused, HasServed}
+use Rattle.session.specs.Sessions.{First, line_limit, service_asked, OpensSession, OpensBehind, IsCutAt, IsBehind, IsSilent, IsRefused, HasServed}
 use Rattle.session.specs.Sessions as first
-use Rattle.session.proofs.ReadsOn.{next_if_told}
+use Rattle.session.proofs.ReadsOn.{next_if_told, if_told, fault_held}
 
 module _ (line : List ℕ) (s t : DeskSeatValue) (end : SessionEnd) (w : Wires) (o : Option Service) (is : o ≡ service_asked (request_of line)) where
   by_service : (gained : List Row) → t.own ≡ s.own ++ gained → (p : Option Service) → o ≡ p → OpensSession p s.number s.seen t.seen gained end w → OpensBehind line s t end w
@@ -67,13 +69,31 @@ first_told result old new before after is reads =
     subst (λ o. IfSome o (λ bytes. IsNextLine line_limit result bytes (stream new after))) (unheld before)
     (next_if_told result start new before after (inl refl) (subst (λ r. ReadsLine result r new before after) is reads))
 
+or_none : Option (List ℕ) → List ℕ
+or_none None = []
+or_none (Some bytes) = bytes
+
+-- a first line stands in front of a line feed, or there is nothing behind it
+first_cut : (text taken : List ℕ) (new : Reader) (mid : Option (List ℕ)) (bytes rest : List ℕ) → EndsLine text taken new mid → in_front taken mid ≡ Some bytes → stream new mid ≡ Some rest → (bytes ≡ text ++ line_feed ∷ rest) ⊎ ((bytes ≡ text) × (rest ≡ []))
+unfolding or_none
+first_cut text taken new None bytes rest ends all left = let never : None ≡ Some bytes = all in absurd cc
+first_cut text taken new (Some m) bytes rest (inl ends) all left =
+    let whole : taken ++ m ≡ bytes = ap or_none all in
+    let held : held_bytes new ++ m ≡ rest = ap or_none left in
+    inl (sym whole ∙ (ap (λ l. l ++ m) ends.0 ∙ (append_assoc text (line_feed ∷ held_bytes new) m ∙ ap (λ l. text ++ line_feed ∷ l) held)))
+first_cut text taken new (Some m) bytes rest (inr ends) all left =
+    let whole : taken ++ m ≡ bytes = ap or_none all in
+    let held : held_bytes new ++ m ≡ rest = ap or_none left in
+    let none : m ≡ [] = ends.5 in
+    inr (sym whole ∙ (ap (λ l. taken ++ l) none ∙ (append-nil taken ∙ ends.0)), sym held ∙ (λ i. ends.2 i ++ none i))
+
 -- a session with a first line
 pub served_line : (text : Vec ℕ Global) (found : List ℕ) (old new : Reader) (held : List ℕ) (s t : DeskSeatValue) (end : SessionEnd) (before mid after taken taken' new_taken : Option (List ℕ)) → old ≡ record { limit = line_limit; front = []; piece = []; state = state.Going; whole = false }
-    → ReadsLine (line.Text text) old new before mid → found ≡ text.items → taken' ≡ taken → OpensBehind found s t end (wires (stream new mid) (in_front held after) taken' new_taken) → HasServed s t end before after taken new_taken
+    → ReadsLine (line.Text text) old new before mid → found ≡ text.items → taken' ≡ taken → OpensBehind found s t end (wires (stream new mid) (in_front held after) after taken' new_taken) → HasServed s t end before after taken new_taken
 served_line text found old new held s t end before mid after taken taken' new_taken is reads same untouched h =
     let limit : old.limit ≡ line_limit = ap (λ (r : Reader). r.limit) is in
     let told = first_told (line.Text text) old new before mid is reads in
-    let opened = subst (λ o. OpensBehind found s t end (wires (stream new mid) (in_front held after) o new_taken)) untouched h in
+    let opened = subst (λ o. OpensBehind found s t end (wires (stream new mid) (in_front held after) after o new_taken)) untouched h in
     record {
       first = first.Line found;
       gained = opened.gained;
@@ -82,14 +102,17 @@ served_line text found old new held s t end before mid after taken taken' new_ta
       session = record {
         short = subst (λ (x : List ℕ × ℕ). length x.0 ≤ x.1) (λ i. (sym same i, limit i)) reads.gives.2;
         behind = stream new mid;
-        first = subst (λ l. IsBehind l before (stream new mid)) (sym same) (fewer before told);
+        first = subst (λ l. IsBehind l before (stream new mid)) (sym same) (fewer before refl told);
         opens = ⊎_elim (λ o. inl o) (λ m. inr (m.0, record { none = m.1.none; unwritten = m.1.unwritten })) opened.opens;
       };
     }
   where
-    fewer : (o : Option (List ℕ)) → IfSome o (λ bytes. IsNextLine line_limit (line.Text text) bytes (stream new mid)) → IfSome o (λ bytes. (rest : List ℕ) × (stream new mid ≡ Some rest) × (lines bytes ≡ text.items ∷ lines rest))
-    fewer None h = tt
-    fewer (Some bytes) h = (h.0, h.1, h.2)
+    ends : EndsLine text.items reads.taken new mid
+    ends = subst (λ (r : Reader). EndsLine text.items (held_bytes r ++ reads.taken) new mid) is reads.gives.3
+
+    fewer : (o : Option (List ℕ)) → o ≡ before → IfSome o (λ bytes. IsNextLine line_limit (line.Text text) bytes (stream new mid)) → IfSome o (λ bytes. (rest : List ℕ) × (stream new mid ≡ Some rest) × (lines bytes ≡ text.items ∷ lines rest) × IsCutAt text.items bytes rest)
+    fewer None same h = tt
+    fewer (Some bytes) same h = (h.0, h.1, h.2, (reads.gives.1, first_cut text.items reads.taken new mid bytes h.0 ends (sym reads.given ∙ sym same) h.1))
 
 -- the first line is over the limit
 pub served_long : (old new : Reader) (s : DeskSeatValue) (end : SessionEnd) (before mid after taken taken' new_taken : Option (List ℕ)) → old ≡ record { limit = line_limit; front = []; piece = []; state = state.Going; whole = false }
@@ -101,3 +124,17 @@ served_long old new s end before mid after taken taken' new_taken is reads untou
   own = sym (append-nil s.own);
   session = (first_told line.Long old new before mid is reads, record { none = refl; wrote = subst (λ o. Wrote (ends.Long 1) end (reply_line (wire.Long 1)) o new_taken) untouched wrote });
 }
+
+-- a fault in front of any line
+pub served_fault : (old new : Reader) (s : DeskSeatValue) (before after taken new_taken : Option (List ℕ)) → old ≡ record { limit = line_limit; front = []; piece = []; state = state.Going; whole = false } → ReadsLine line.Fault old new before after → new_taken ≡ taken
+    → HasServed s s ends.LinkFault before after taken new_taken
+served_fault old new s before after taken new_taken is reads untouched =
+    let start : Reader = record { limit = line_limit; front = []; piece = []; state = state.Going; whole = false } in
+    let held = fault_held start new before after (inl refl) (subst (λ r. ReadsLine line.Fault r new before after) is reads) in
+    record {
+      first = first.Failure;
+      gained = [];
+      held = [];
+      own = sym (append-nil s.own);
+      session = (inl (refl, (held_bytes new, sym (unheld before) ∙ held.2, whole_are_pieces [] (held_bytes new) (All-nil HasNoFeed) held.1)), record { none = refl; unwritten = untouched });
+    }

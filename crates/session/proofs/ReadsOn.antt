@@ -1,12 +1,13 @@
 -- A reader that goes on, or whose bytes have ended.
-use Rattle.std.proofs.Common.{◌≡◌, inl, inr, ⊎_elim, ℕ, List, [], ◌++◌, refl, sym, ap, ◌∙◌, subst, Option, Some, None, IfSome}
+use Rattle.std.proofs.Common.{◌≡◌, inl, inr, ⊎_elim, ℕ, List, [], ◌∷◌, ◌++◌, append_assoc, refl, sym, ap, ◌∙◌, subst, Option, Some, None, IfSome}
 use Rattle.std.specs.Prelude.{Vec}
 use Rattle.std.specs.declared.alloc.Global.{Global}
 use Rattle.troop_ports.specs.Bytes.{in_front}
+use Rattle.wire_lines.specs.Lines.{HasNoFeed, line_feed}
 use Rattle.wire_lines.specs.declared.reader.State.TheVariants as state
 use Rattle.wire_lines.specs.declared.reader.Line.{Line}
 use Rattle.wire_lines.specs.declared.reader.Line.TheVariants as line
-use Rattle.wire_lines.specs.Reader.{Reader, held_bytes, ReadsLine, IsNextLine}
+use Rattle.wire_lines.specs.Reader.{Reader, held_bytes, EndsLine, ReadsLine, IsNextLine}
 use Rattle.wire_lines.proofs.IsNextLine.{for_every_cutting, end_told, ends_state}
 use Rattle.session.specs.Ends.{stream, ReadsOn}
 
@@ -43,3 +44,36 @@ next_if_told result old new before after goes r = if_told (stream old before) (�
 -- behind a line it goes on, or the bytes have ended
 pub goes_behind : (text : Vec ℕ Global) (old new : Reader) (before after after' : Option (List ℕ)) → ReadsLine (line.Text text) old new before after → after' ≡ after → ReadsOn new after'
 goes_behind text old new before after after' r same = subst (ReadsOn new) (sym same) (ends_state text.items (held_bytes old ++ r.taken) new after r.gives.3)
+
+-- ---- by bytes
+
+-- bytes in front of others
+pub in_front-twice : (xs ys : List ℕ) (told : Option (List ℕ)) → in_front xs (in_front ys told) ≡ in_front (xs ++ ys) told
+in_front-twice xs ys None = refl
+in_front-twice xs ys (Some rest) = ap Some (sym (append_assoc xs ys rest))
+
+fed : (text bytes : List ℕ) (new : Reader) (remaining : Option (List ℕ)) → EndsLine text bytes new remaining → new.state ≡ state.Going → bytes ≡ text ++ line_feed ∷ held_bytes new
+fed text bytes new remaining (inl ends) going = ends.0
+fed text bytes new remaining (inr ends) going = never_ended new going ends.3
+
+-- a line behind which the reader goes on was cut out with its line feed
+pub line_cut : (text : Vec ℕ Global) (found : List ℕ) (old new : Reader) (before after after' : Option (List ℕ)) → ReadsLine (line.Text text) old new before after → after' ≡ after → found ≡ text.items → new.state ≡ state.Going
+    → (old.state ≡ state.Going) × HasNoFeed found × (stream old before ≡ in_front (found ++ line_feed ∷ []) (stream new after'))
+line_cut text found old new before after after' r same as_read going =
+    let bytes = fed text.items (held_bytes old ++ r.taken) new after r.gives.3 going in
+    let whole = ap (in_front (held_bytes old)) r.given ∙ (in_front-twice (held_bytes old) r.taken after ∙ ap (λ l. in_front l after) (bytes ∙ sym (append_assoc text.items (line_feed ∷ []) (held_bytes new)))) in (
+      r.gives.0,
+      subst HasNoFeed (sym as_read) r.gives.1,
+      whole ∙ (sym (in_front-twice (text.items ++ line_feed ∷ []) (held_bytes new) after) ∙ (λ i. in_front (sym as_read i ++ line_feed ∷ []) (stream new (sym same i)))),
+    )
+
+never_held : (old : Reader) (before : Option (List ℕ)) → ReadsOn old before → old.state ≡ state.Fault → old.state ≡ state.Going
+never_held old before (inl going) fault = going
+never_held old before (inr ended) fault = never_fault old fault ended.0
+
+-- at a fault no whole line is held
+pub fault_held : (old new : Reader) (before after : Option (List ℕ)) → ReadsOn old before → ReadsLine line.Fault old new before after
+    → (old.state ≡ state.Going) × HasNoFeed (held_bytes new) × (stream old before ≡ in_front (held_bytes new) after)
+fault_held old new before after goes r =
+    let bytes = ap (in_front (held_bytes old)) r.given ∙ (in_front-twice (held_bytes old) r.taken after ∙ ap (λ l. in_front l after) (sym r.gives.1)) in
+    ⊎_elim (λ h. (let going = never_held old before goes h.0 in let never : state.Fault ≡ state.Going = sym h.0 ∙ going in absurd cc)) (λ h. (h.0, h.1, bytes)) r.gives.2

@@ -1,10 +1,10 @@
 -- What was written: all of some bytes, or a front of them.
-use Rattle.std.proofs.Common.{◌≡◌, inl, inr, ℕ, List, [], ◌++◌, refl, sym, ap, ◌∙◌, Option, Some, None, append_assoc}
+use Rattle.std.proofs.Common.{◌≡◌, inl, inr, ℕ, List, [], ◌++◌, length, length-append, arith, refl, sym, ap, ◌∙◌, Option, Some, None, append_assoc}
 use Rattle.std.proofs.lemmas.List.{append-nil}
 use Rattle.seat_lock.proofs.Begins.{begins_same, begins_more}
 use Rattle.troop_ports.specs.Bytes.{at_end}
 use Rattle.session.specs.declared.session_end.SessionEnd.{SessionEnd}
-use Rattle.session.specs.Ends.{WroteFront, Wrote}
+use Rattle.session.specs.Ends.{WroteFront, WroteLess, Wrote}
 
 -- bytes behind others
 pub at_end-twice : (told : Option (List ℕ)) (a b : List ℕ) → at_end (at_end told a) b ≡ at_end told (a ++ b)
@@ -35,6 +35,19 @@ front_none old new a e = ([], (a, refl), e ∙ at_end-nil old)
 -- a front of the first bytes is one of all
 pub front_more : (old new : Option (List ℕ)) (a b : List ℕ) → WroteFront a old new → WroteFront (a ++ b) old new
 front_more old new a b f = (f.0, begins_more f.0 a b (a ++ b) f.1 refl, f.2)
+
+-- a write, and then fewer bytes than the others
+pub less_on : (old mid new : Option (List ℕ)) (a b : List ℕ) → mid ≡ at_end old a → WroteLess b mid new → WroteLess (a ++ b) old new
+less_on old mid new a b e (front, begins, less, wrote) =
+    let x = length-append a front in
+    let y = length-append a b in
+    (a ++ front, (begins.0, append_assoc a front begins.0 ∙ ap (λ l. a ++ l) begins.1), omega (arith, x, y, less), wrote_on old mid new a front e wrote)
+
+-- fewer than the first bytes are fewer than all
+pub less_more : (old new : Option (List ℕ)) (a b : List ℕ) → WroteLess a old new → WroteLess (a ++ b) old new
+less_more old new a b (front, begins, less, wrote) =
+    let y = length-append a b in
+    (front, begins_more front a b (a ++ b) begins refl, omega (arith, y, less), wrote)
 
 -- what a session wrote behind other bytes
 pub wrote_behind : (so end : SessionEnd) (first owed : List ℕ) (old mid new : Option (List ℕ)) → mid ≡ at_end old first → Wrote so end owed mid new → Wrote so end (first ++ owed) old new

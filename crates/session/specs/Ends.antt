@@ -1,5 +1,5 @@
 -- How a session ends, what it has then written, and what its link has counted.
-use Rattle.std.specs.Prelude.{◌≡◌, ◌⊎◌, ℕ, List, [], Option, IfSome}
+use Rattle.std.specs.Prelude.{◌≡◌, ◌⊎◌, ℕ, ◌<◌, List, [], length, Option, IfSome}
 use Rattle.seat_lock.specs.Lists.{Begins}
 use Rattle.troop_ports.specs.Bytes.{in_front, at_end}
 use Rattle.troop_ports.specs.Faults.{Counted}
@@ -11,6 +11,10 @@ use Rattle.session.specs.declared.session_end.SessionEnd.TheVariants as ends
 -- a front of these bytes was written
 abbrev pub WroteFront : List ℕ → Option (List ℕ) → Option (List ℕ) → Type 0
 WroteFront owed old new = (front : List ℕ) × Begins front owed × (new ≡ at_end old front)
+
+-- fewer bytes than these were written, from their beginning on
+abbrev pub WroteLess : List ℕ → Option (List ℕ) → Option (List ℕ) → Type 0
+WroteLess owed old new = (front : List ℕ) × Begins front owed × (length front < length owed) × (new ≡ at_end old front)
 
 -- a fault of its link, or want of memory, ended the session
 abbrev pub IsBroken : SessionEnd → Type 0
@@ -49,16 +53,18 @@ CountsEnd (ends.Stranger who) before now = now ≡ before
 CountsEnd (ends.Long line) before now = now ≡ before
 CountsEnd (ends.Unfit line) before now = now ≡ before
 
--- what a session's link has left to be read and what it took, before the session and behind it, where it tells them
+-- what a session's link has left to be read and what it took, before the session and behind it, where it tells them: `left_after` with what was read and stands in no line
+-- that was looked at, `rest` without it
 pub record Wires : Type 0 where
   pub left_before : Option (List ℕ)
   pub left_after : Option (List ℕ)
+  pub rest : Option (List ℕ)
   pub taken_before : Option (List ℕ)
   pub taken_after : Option (List ℕ)
 
--- the four of them
-abbrev pub wires : Option (List ℕ) → Option (List ℕ) → Option (List ℕ) → Option (List ℕ) → Wires
-wires left_before left_after taken_before taken_after = record { left_before = left_before; left_after = left_after; taken_before = taken_before; taken_after = taken_after }
+-- the five of them
+abbrev pub wires : Option (List ℕ) → Option (List ℕ) → Option (List ℕ) → Option (List ℕ) → Option (List ℕ) → Wires
+wires left_before left_after rest taken_before taken_after = record { left_before = left_before; left_after = left_after; rest = rest; taken_before = taken_before; taken_after = taken_after }
 
 -- what a reader of lines holds, and then what its link has left
 abbrev pub stream : Reader → Option (List ℕ) → Option (List ℕ)

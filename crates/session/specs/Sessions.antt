@@ -6,7 +6,7 @@ use Rattle.troop_entry.specs.declared.call.Request.TheVariants as request
 use Rattle.troop_entry.specs.declared.row.Row.{Row}
 use Rattle.troop_ports.specs.Bytes.{in_front}
 use Rattle.troop_hall.specs.Seats.{DeskSeatValue}
-use Rattle.wire_lines.specs.Lines.{lines}
+use Rattle.wire_lines.specs.Lines.{lines, line_feed, HasNoFeed}
 use Rattle.wire_json.specs.declared.replies.WireReply.TheVariants as wire
 use Rattle.session.specs.declared.session_end.SessionEnd.{SessionEnd}
 use Rattle.session.specs.declared.session_end.SessionEnd.TheVariants as ends
@@ -15,7 +15,7 @@ use Rattle.session.specs.declared.service.Service.{Service}
 use Rattle.session.specs.declared.service.Service.TheVariants as service
 use Rattle.session.specs.Printed.{request_of, reply_line}
 use Rattle.session.specs.Ends.{Wires, Wrote}
-use Rattle.session.specs.UpLines.{EndsTalk, IsIdle, UpLine}
+use Rattle.session.specs.UpLines.{EndsTalk, CameWhole, IsIdle, UpLine}
 use Rattle.session.specs.DownLines.{DownLine, SnapLine}
 
 -- how many bytes a line may have, without its line feed
@@ -59,9 +59,13 @@ pub data First : Type 0 where
   Long : First
   Failure : First
 
+-- the line has no line feed, and stands in front of one, behind which there are these bytes; or there is nothing behind it
+abbrev pub IsCutAt : List ℕ → List ℕ → List ℕ → Type 0
+IsCutAt line bytes rest = HasNoFeed line × ((bytes ≡ line ++ line_feed ∷ rest) ⊎ ((bytes ≡ line) × (rest ≡ [])))
+
 -- behind the first line of the bytes there are these, where they are told
 abbrev pub IsBehind : List ℕ → Option (List ℕ) → Option (List ℕ) → Type 0
-IsBehind line before behind = IfSome before (λ bytes. (rest : List ℕ) × (behind ≡ Some rest) × (lines bytes ≡ line ∷ lines rest))
+IsBehind line before behind = IfSome before (λ bytes. (rest : List ℕ) × (behind ≡ Some rest) × (lines bytes ≡ line ∷ lines rest) × IsCutAt line bytes rest)
 
 -- nothing was written, and no row gained
 pub record IsSilent (gained : List Row) (w : Wires) : Type 0 where
@@ -80,7 +84,7 @@ abbrev pub Session : First → ℕ → List Row → List Row → List Row → Se
 Session (Line line) seat seen log gained end w = HasOpened line seat seen log gained end w
 Session Nothing seat seen log gained end w = IfSome w.left_before (λ bytes. bytes ≡ []) × (end ≡ ends.Left) × IsSilent gained w
 Session Long seat seen log gained end w = IfSome w.left_before (EndsTalk line_limit) × IsRefused (ends.Long 1) (reply_line (wire.Long 1)) gained end w
-Session Failure seat seen log gained end w = ((end ≡ ends.LinkFault) ⊎ (end ≡ ends.Memory)) × IsSilent gained w
+Session Failure seat seen log gained end w = (((end ≡ ends.LinkFault) × CameWhole [] w) ⊎ (end ≡ ends.Memory)) × IsSilent gained w
 
 -- what a session says behind its first line, or memory was wanting to read it
 pub record OpensBehind (line : List ℕ) (s t : DeskSeatValue) (end : SessionEnd) (w : Wires) : Type 0 where
@@ -95,4 +99,4 @@ pub record HasServed (s t : DeskSeatValue) (end : SessionEnd) (left_before left_
   -- what was read and stands in no line that was looked at
   pub held : List ℕ
   pub own : t.own ≡ s.own ++ gained
-  pub session : Session first s.number s.seen t.seen gained end (record { left_before = left_before; left_after = in_front held left_after; taken_before = taken_before; taken_after = taken_after })
+  pub session : Session first s.number s.seen t.seen gained end (record { left_before = left_before; left_after = in_front held left_after; rest = left_after; taken_before = taken_before; taken_after = taken_after })

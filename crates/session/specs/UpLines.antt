@@ -9,14 +9,15 @@ use Rattle.troop_entry.specs.declared.row.Row.{Row}
 use Rattle.log_model.specs.Log.{has_join, has_leave, is_join_by}
 use Rattle.log_model.specs.Answers.{answer}
 use Rattle.troop_hall.specs.Seats.{DeskSeatValue, rows_gained}
-use Rattle.wire_lines.specs.Lines.{lines}
+use Rattle.troop_ports.specs.Bytes.{in_front}
+use Rattle.wire_lines.specs.Lines.{lines, whole_lines}
 use Rattle.wire_json.specs.declared.replies.WireReply.TheVariants as wire
 use Rattle.session.specs.declared.session_end.SessionEnd.{SessionEnd}
 use Rattle.session.specs.declared.session_end.SessionEnd.TheVariants as ends
 use Rattle.session.specs.declared.opening.Opening.{Opening}
 use Rattle.session.specs.declared.opening.Opening.TheVariants as opening
 use Rattle.session.specs.Printed.{reply_line}
-use Rattle.session.specs.Ends.{Wires, Wrote}
+use Rattle.session.specs.Ends.{Wires, Wrote, WroteLess}
 use Rattle.session.specs.Replies.{AnsweredLine, AreReplies, rows_of_turns, printed, lines_of_turns, parts, ask_of, join_ask, log_behind}
 
 -- ---- The lines behind an opening.
@@ -61,6 +62,14 @@ StopsAt Breaking end limit rest after =
 abbrev pub ReadsLines : List (List ℕ) → Stop → SessionEnd → ℕ → Option (List ℕ) → Option (List ℕ) → Type 0
 ReadsLines read stop end limit before after = IfSome before (λ bytes. (rest : List ℕ) × (lines bytes ≡ read ++ lines rest) × StopsAt stop end limit rest after)
 
+-- these are the lines that came whole: those of the bytes that were taken
+abbrev pub CameWhole : List (List ℕ) → Wires → Type 0
+CameWhole read w = (given : List ℕ) × (w.left_before ≡ in_front given w.rest) × (whole_lines given ≡ read)
+
+-- a fault of the link ended the session: a write failed, and less was written than these bytes; or a read failed, and these lines are those that came whole
+abbrev pub StopsByFault : List (List ℕ) → List ℕ → SessionEnd → Wires → Type 0
+StopsByFault read owed end w = end ≡ ends.LinkFault → WroteLess owed w.taken_before w.taken_after ⊎ CameWhole read w
+
 -- the last of the lines is a leave that stands in the log, and no earlier one is
 pub record IsParting (turns : List AnsweredLine) : Type 0 where
   pub earlier : List AnsweredLine
@@ -84,6 +93,7 @@ pub record Talk (limit seat who : ℕ) (over : SessionEnd) (before after : List 
   pub short : AllOf (λ (t : AnsweredLine). length t.line ≤ limit) turns
   pub reads : ReadsLines (lines_of_turns turns) stop end limit w.left_before w.left_after
   pub wrote : Wrote (end_by over stop (2 + length turns)) end (first ++ (printed turns ++ last_by stop (2 + length turns))) w.taken_before w.taken_after
+  pub fault : StopsByFault (lines_of_turns turns) (first ++ (printed turns ++ last_by stop (2 + length turns))) end w
   pub parting : PartsBy stop turns
 
 -- ---- The session's end.

@@ -34,7 +34,7 @@ fn converse<L: Link, R: Wait>(
     requires whole { IsWhole over }
     ensures hall { IsDeskSeat hall.now seat.new }
     ensures legal { IsLegal seat.old.seen → IsLegal seat.new.seen }
-    ensures talk { HasTalked reader.old.limit who over seat.old seat.new [] result (wires (stream reader.old (L.Source.remaining link.old)) (stream reader.new (L.Source.remaining link.new)) (L.Sink.taken link.old) (L.Sink.taken link.new)) }
+    ensures talk { HasTalked reader.old.limit who over seat.old seat.new [] result (wires (stream reader.old (L.Source.remaining link.old)) (stream reader.new (L.Source.remaining link.new)) (L.Source.remaining link.new) (L.Sink.taken link.old) (L.Sink.taken link.new)) }
     ensures count { CountsEnd result (L.Source.faults link.old) (L.Source.faults link.new) }
     ensures still_open { L.Source.closed link.new ≡ false }
 {
@@ -79,7 +79,7 @@ pub(crate) fn attend<L: Link, R: Wait>(
     requires whole { IsWhole over }
     ensures hall { IsDeskSeat hall.now seat.new }
     ensures legal { IsLegal seat.old.seen → IsLegal seat.new.seen }
-    ensures talk { HasTalked reader.old.limit who over seat.old seat.new (reply_line (Desk reply)) result (wires (stream reader.old (L.Source.remaining link.old)) (stream reader.new (L.Source.remaining link.new)) (L.Sink.taken link.old) (L.Sink.taken link.new)) }
+    ensures talk { HasTalked reader.old.limit who over seat.old seat.new (reply_line (Desk reply)) result (wires (stream reader.old (L.Source.remaining link.old)) (stream reader.new (L.Source.remaining link.new)) (L.Source.remaining link.new) (L.Sink.taken link.old) (L.Sink.taken link.new)) }
     ensures count { CountsEnd result (L.Source.faults link.old) (L.Source.faults link.new) }
     ensures still_open { L.Source.closed link.new ≡ false }
 {

@@ -63,7 +63,7 @@ fn enter<L: Link, R: Wait>(
     requires whole { IsWhole over }
     ensures hall { IsDeskSeat hall.now seat.new × IsLater seat.old seat.new }
     ensures legal { IsLegal seat.new.seen }
-    ensures enters { Enters reader.old.limit (Join name lang) over seat.old seat.new result.0 result.1 (wires (stream reader.old (L.Source.remaining link.old)) (stream reader.new (L.Source.remaining link.new)) (L.Sink.taken link.old) (L.Sink.taken link.new)) }
+    ensures enters { Enters reader.old.limit (Join name lang) over seat.old seat.new result.0 result.1 (wires (stream reader.old (L.Source.remaining link.old)) (stream reader.new (L.Source.remaining link.new)) (L.Source.remaining link.new) (L.Sink.taken link.old) (L.Sink.taken link.new)) }
     ensures count { CountsEnd result.0 (L.Source.faults link.old) (L.Source.faults link.new) }
     ensures still_open { L.Source.closed link.new ≡ false }
 {
@@ -94,7 +94,7 @@ pub(crate) fn join<L: Link, R: Wait>(
     requires going { ReadsOn reader.old (L.Source.remaining link.old) }
     ensures hall { IsDeskSeat hall.now seat.new × IsLater seat.old seat.new }
     ensures legal { IsLegal seat.new.seen }
-    ensures session { HasAttended reader.old.limit (opening.Join name lang) seat.old seat.new result (wires (stream reader.old (L.Source.remaining link.old)) (stream reader.new (L.Source.remaining link.new)) (L.Sink.taken link.old) (L.Sink.taken link.new)) }
+    ensures session { HasAttended reader.old.limit (opening.Join name lang) seat.old seat.new result (wires (stream reader.old (L.Source.remaining link.old)) (stream reader.new (L.Source.remaining link.new)) (L.Source.remaining link.new) (L.Sink.taken link.old) (L.Sink.taken link.new)) }
     ensures count { CountsEnd result (L.Source.faults link.old) (L.Source.faults link.new) }
     ensures still_open { L.Source.closed link.new ≡ false }
 {
@@ -123,7 +123,7 @@ pub(crate) fn stay<L: Link, R: Wait>(
     requires going { ReadsOn reader.old (L.Source.remaining link.old) }
     ensures hall { IsDeskSeat hall.now seat.new × IsLater seat.old seat.new }
     ensures legal { IsLegal seat.new.seen }
-    ensures session { HasAttended reader.old.limit (opening.Stay name lang) seat.old seat.new result (wires (stream reader.old (L.Source.remaining link.old)) (stream reader.new (L.Source.remaining link.new)) (L.Sink.taken link.old) (L.Sink.taken link.new)) }
+    ensures session { HasAttended reader.old.limit (opening.Stay name lang) seat.old seat.new result (wires (stream reader.old (L.Source.remaining link.old)) (stream reader.new (L.Source.remaining link.new)) (L.Source.remaining link.new) (L.Sink.taken link.old) (L.Sink.taken link.new)) }
     ensures count { CountsEnd result (L.Source.faults link.old) (L.Source.faults link.new) }
     ensures still_open { L.Source.closed link.new ≡ false }
 {

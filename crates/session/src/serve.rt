@@ -67,7 +67,7 @@ fn open<L: Link, R: Wait>(
     requires limit { reader.old.limit ≡ line_limit }
     ensures hall { IsDeskSeat hall.now seat.new × IsLater seat.old seat.new }
     ensures legal { IsLegal seat.old.seen → IsLegal seat.new.seen }
-    ensures session { OpensBehind line.now seat.old seat.new result (wires (stream reader.old (L.Source.remaining link.old)) (stream reader.new (L.Source.remaining link.new)) (L.Sink.taken link.old) (L.Sink.taken link.new)) }
+    ensures session { OpensBehind line.now seat.old seat.new result (wires (stream reader.old (L.Source.remaining link.old)) (stream reader.new (L.Source.remaining link.new)) (L.Source.remaining link.new) (L.Sink.taken link.old) (L.Sink.taken link.new)) }
     ensures count { CountsEnd result (L.Source.faults link.old) (L.Source.faults link.new) }
     ensures still_open { L.Source.closed link.new ≡ false }
 {

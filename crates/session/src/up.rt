@@ -33,7 +33,7 @@ fn back<L: Link, R: Wait>(
     requires going { ReadsOn reader.old (L.Source.remaining link.old) }
     ensures hall { IsDeskSeat hall.now seat.new × IsLater seat.old seat.new }
     ensures legal { IsLegal seat.new.seen }
-    ensures session { HasAttended reader.old.limit (opening.Back who) seat.old seat.new result (wires (stream reader.old (L.Source.remaining link.old)) (stream reader.new (L.Source.remaining link.new)) (L.Sink.taken link.old) (L.Sink.taken link.new)) }
+    ensures session { HasAttended reader.old.limit (opening.Back who) seat.old seat.new result (wires (stream reader.old (L.Source.remaining link.old)) (stream reader.new (L.Source.remaining link.new)) (L.Source.remaining link.new) (L.Sink.taken link.old) (L.Sink.taken link.new)) }
     ensures count { CountsEnd result (L.Source.faults link.old) (L.Source.faults link.new) }
     ensures still_open { L.Source.closed link.new ≡ false }
 {
@@ -72,7 +72,7 @@ pub fn serve_up<L: Link, R: Wait>(
     requires going { ReadsOn reader.old (L.Source.remaining link.old) }
     ensures hall { IsDeskSeat hall.now seat.new × IsLater seat.old seat.new }
     ensures legal { IsLegal seat.new.seen }
-    ensures session { HasAttended reader.old.limit opening seat.old seat.new result (wires (stream reader.old (L.Source.remaining link.old)) (stream reader.new (L.Source.remaining link.new)) (L.Sink.taken link.old) (L.Sink.taken link.new)) }
+    ensures session { HasAttended reader.old.limit opening seat.old seat.new result (wires (stream reader.old (L.Source.remaining link.old)) (stream reader.new (L.Source.remaining link.new)) (L.Source.remaining link.new) (L.Sink.taken link.old) (L.Sink.taken link.new)) }
     ensures count { CountsEnd result (L.Source.faults link.old) (L.Source.faults link.new) }
     ensures still_open { L.Source.closed link.new ≡ false }
 {

@@ -1,4 +1,5 @@
-use Rattle.std.proofs.Common.{ap, refl}
+use Rattle.std.proofs.Common.{ap, refl, sym, inr, []}
+use Rattle.std.proofs.lemmas.List.{append-nil}
 use Rattle.session.specs.Ends.{stream}
 use Rattle.session.proofs.OpensSession.{up_behind, down_behind, snap_behind, none_behind}
 use Rattle.session.proofs.serve.open.Goals as goal
@@ -20,3 +21,6 @@ returns-in-Some-Snap-clause-session g c =
 pub returns-in-None-clause-session : goal.returns-in-None-clause-session
 returns-in-None-clause-session g c =
     none_behind c.args.line.now c.args.seat.now c.args.seat.now c.send_off.result _ c.in-Ok.service c.in-Ok.ensures c.in-None.is refl c.send_off.ensures.bytes
+
+pub returns-in_default-clause-session : goal.returns-in_default-clause-session
+returns-in_default-clause-session g c = record { gained = []; own = sym (append-nil c.args.seat.now.own); opens = inr (refl, record { none = refl; unwritten = refl }) }
