@@ -6,12 +6,13 @@ use Rattle.atomic_table.specs.Seated.{TableId}
 use Rattle.seat_lock.specs.Lists.{Begins, AllOf, rows_of}
 use Rattle.troop_entry.specs.declared.row.Row.{Row}
 use Rattle.troop_hall.specs.Seats.{DeskHallValue}
+use Rattle.link_queue.specs.Balance.{weigh}
 use Rattle.server_crew.specs.declared.shift.Shift.{Shift}
 use Rattle.server_crew.specs.declared.worker.Worker.{Worker}
-use Rattle.server_crew.specs.Shifts.{gained_rows, all_links, HaveLost, IsServedLink, IsShift, AreShifts}
+use Rattle.server_crew.specs.Shifts.{returned_links, gained_rows, all_links, HaveLost, IsServedLink, IsShift, AreShifts}
 use Rattle.server_crew.specs.Workers.{IsAtWork, all_taken}
 use Rattle.server_crew.specs.Crews.{Hand, taken_by, returned_by}
-use Rattle.server_crew.proofs.IsShift.{served_later}
+use Rattle.server_crew.proofs.IsShift.{served_later, weigh_both}
 
 module _ {L : Type 0} where
   -- the shifts of workers
@@ -23,7 +24,8 @@ pub record AreHands {L : Type 0} (remaining written : L → Option (List ℕ)) (
   pub hands : List (Hand L)
   pub numbers : map (λ (h : Hand L). h.number) hands ≡ map (λ (s : Shift L). s.seat.number) shifts
   pub taken_are : taken_by hands ≡ taken
-  pub returned_are : returned_by hands ≡ all_links shifts
+  pub returned_are : AllOf (λ (s : Shift L). s.is_spoiled ≡ false) shifts → returned_by hands ≡ all_links shifts
+  pub part : (f : L → ℕ) → weigh f (all_links shifts) ≤ weigh f (returned_by hands)
   pub served : AllOf (λ (h : Hand L). AllOf (IsServedLink remaining written faults closed h.number log) h.served) hands
   pub own : AllOf (λ (h : Hand L). rows_of (λ (r : Row). r.seat) h.number log ≡ gained_rows h.served) hands
 
@@ -59,19 +61,25 @@ module _ {L : Type 0} (remaining written : L → Option (List ℕ)) (faults : L 
       ⊎_elim (λ (e : s.is_spoiled ≡ true). let mine = h.3.lost e in let rest = links_few ss h.1 h.4 in omega (arith, rest, mine, kept, all, same))
       (λ (r : HaveLost ss). let mine = h.3.few in let rest = links_fewer ss h.1 h.4 r in omega (arith, rest, mine, kept, all, same)) some
 
-  -- where the seats' own rows are the log's, and no link was lost
+  -- where the seats' own rows are the log's
   pub hands_of : (ss : List (Shift L)) (taken : List L) (log : List Row) → AreShifts remaining written faults closed ss taken → AllOf (λ (s : Shift L). Begins s.seat.seen log) ss → AllOf (λ (s : Shift L). rows_of (λ (r : Row). r.seat) s.seat.number log ≡ s.seat.own) ss
-      → AllOf (λ (s : Shift L). s.is_spoiled ≡ false) ss → AreHands remaining written faults closed ss taken log
-  hands_of [] taken log h begins own kept = record { hands = []; numbers = refl; taken_are = sym h; returned_are = refl; served = tt; own = tt }
-  hands_of (s ∷ ss) taken log h begins own kept =
+      → AreHands remaining written faults closed ss taken log
+  hands_of [] taken log h begins own = record { hands = []; numbers = refl; taken_are = sym h; returned_are = λ _. refl; part = λ f. omega arith; served = tt; own = tt }
+  hands_of (s ∷ ss) taken log h begins own =
       let shift = h.3 in
-      let rest = hands_of ss h.1 log h.4 begins.1 own.1 kept.1 in
+      let rest = hands_of ss h.1 log h.4 begins.1 own.1 in
       let hand : Hand L = record { number = s.seat.number; served = shift.served } in
       record {
         hands = hand ∷ rest.hands;
         numbers = ap (λ l. s.seat.number ∷ l) rest.numbers;
         taken_are = (λ i. shift.taken_are i ++ rest.taken_are i) ∙ h.2;
-        returned_are = λ i. shift.returned_are kept.0 i ++ rest.returned_are i;
+        returned_are = λ kept i. shift.returned_are kept.0 i ++ rest.returned_are kept.1 i;
+        part = λ f.
+            let mine = shift.part f in
+            let others = rest.part f in
+            let kept = weigh_both f s.links.items (all_links ss) in
+            let out = weigh_both f (returned_links shift.served) (returned_by rest.hands) in
+            omega (arith, mine, others, kept, out);
         served = (served_later remaining written faults closed s.seat.number s.seat.seen log begins.0 shift.served shift.sessions, rest.served);
         own = (own.0 ∙ shift.own, rest.own);
       }

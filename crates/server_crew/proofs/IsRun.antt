@@ -16,7 +16,7 @@ use Rattle.server_crew.specs.declared.shift.Shift.{Shift}
 use Rattle.server_crew.specs.declared.worker.Worker.{Worker}
 use Rattle.server_crew.specs.Shifts.{ServedLink, taken_links, returned_links, all_links, HaveLost, IsShift, AreShifts}
 use Rattle.server_crew.specs.Workers.{IsAtWork, indexes, all_taken}
-use Rattle.server_crew.specs.Crews.{AreDifferent, IsRun}
+use Rattle.server_crew.specs.Crews.{Hand, AreDifferent, taken_by, returned_by, IsCrewOf, IsRun, IsServedInPart}
 use Rattle.server_crew.proofs.AreShifts.{shifts_of, shifts_at_work, shifts_last, links_few, links_fewer, hands_of}
 
 module _ {A B : Type 0} where
@@ -94,6 +94,14 @@ module _ {L : Type 0} where
   same_length [] = refl
   same_length (k ∷ ks) = let r = same_length ks in omega (arith, r)
 
+-- A crew that served these links in these shifts: all came out of their sessions into the shifts, unless one was lost, and what is in the shifts came out of a session.
+pub record CrewAtEnd {L : Type 0} (remaining written : L → Option (List ℕ)) (faults : L → ℕ) (closed : L → Bool) (shifts : List (Shift L)) (links : List L) (log : List Row) : Type 0 where
+  pub hands : List (Hand L)
+  pub crew : IsCrewOf remaining written faults closed log hands
+  pub once : (f : L → ℕ) → weigh f links ≡ weigh f (taken_by hands)
+  pub whole : AllOf (λ (s : Shift L). s.is_spoiled ≡ false) shifts → returned_by hands ≡ all_links shifts
+  pub part : (f : L → ℕ) → weigh f (all_links shifts) ≤ weigh f (returned_by hands)
+
 module _ {L : Type 0} (remaining written : L → Option (List ℕ)) (faults : L → ℕ) (closed : L → Bool) (hall : DeskHallValue) (queue : TableId) where
   -- what the workers' ends are
   pub ends_at_work : (ws : List (Worker L)) → All (IsAtWork remaining written faults closed hall queue) ws → AllOf (λ (w : Worker L). (w.end.queue ≡ queue) × (w.end.parts ≡ 1) × (w.end.put ≡ [])) ws
@@ -159,13 +167,12 @@ module _ {L : Type 0} (remaining written : L → Option (List ℕ)) (faults : L 
           let same = ap (λ (l : List L). length l) h.2 in
           omega (arith, rest, out, into, images, both, all, same)
 
-  -- the run
-  pub run_at_end : (ws : List (Worker L)) (last : Shift L) (mine links : List L) (start log : List Row) (old new retired retired' : Option (List L)) → All (IsAtWork remaining written faults closed hall queue) ws → IsDeskSeat hall last.seat → length (seats_of (shifts_of ws ++ last ∷ [])) < 2 ^ 64
+  -- the crew, and what came of its sessions
+  pub crew_at_end : (ws : List (Worker L)) (last : Shift L) (mine links : List L) (start log : List Row) → All (IsAtWork remaining written faults closed hall queue) ws → IsDeskSeat hall last.seat → length (seats_of (shifts_of ws ++ last ∷ [])) < 2 ^ 64
       → IsShift remaining written faults closed last mine → ((f : L → ℕ) → weigh f links ≡ weigh f (all_taken ws ++ mine)) → last.seat.index ≡ 0 → last.seat.made ≡ indexes ws → start ≡ []
       → IsSettled (λ (r : Row). r.seat) start log (map card_of (seats_of (shifts_of ws ++ last ∷ []))) → (AreAllSeats (map card_of (seats_of (shifts_of ws ++ last ∷ []))) → AccountFor (λ (r : Row). r.seat) start log (seats_of (shifts_of ws ++ last ∷ [])))
-      → AllOf (λ (s : Shift L). s.is_spoiled ≡ false) (shifts_of ws ++ last ∷ []) → old ≡ option_map (λ others. links ++ others) new → retired' ≡ option_map (λ others. others ++ all_links (shifts_of ws ++ last ∷ [])) retired
-      → IsRun remaining written faults closed links log old new retired retired'
-  run_at_end ws last mine links start log old new retired retired' h seat fits own once first made empty settled account kept from back =
+      → CrewAtEnd remaining written faults closed (shifts_of ws ++ last ∷ []) links log
+  crew_at_end ws last mine links start log h seat fits own once first made empty settled account =
       let ss : List (Shift L) = shifts_of ws ++ last ∷ [] in
       let closed_all = all_at_work ws last h first made in
       let whole = account closed_all in
@@ -175,11 +182,10 @@ module _ {L : Type 0} (remaining written : L → Option (List ℕ)) (faults : L 
       let numbered = all_map (IsDeskSeat hall) (λ (s : DeskSeatValue). s.number ≡ s.index % 2 ^ 64) (λ s of. of.3) (seats_of ss) (seats_at_work ws last h seat) in
       let begins = of_images (λ (s : DeskSeatValue). Begins s.seen log) (λ (s : Shift L). s.seat) ss (of_images (λ (c : Card Row). Begins c.seen log) card_of (seats_of ss) settled.begins) in
       let rows = of_images (λ (s : DeskSeatValue). rows_of (λ (r : Row). r.seat) s.number log ≡ s.own) (λ (s : Shift L). s.seat) ss whole.own in
-      let hands = hands_of remaining written faults closed ss (all_taken ws ++ mine) log (shifts_at_end ws last mine h own) begins rows kept in
+      let hands = hands_of remaining written faults closed ss (all_taken ws ++ mine) log (shifts_at_end ws last mine h own) begins rows in
       let all : whole.behind ≡ log = ap (λ l. l ++ whole.behind) (sym empty) ∙ whole.splits in
       record {
         hands = hands.hands;
-        from = from;
         crew = record {
           served = hands.served;
           apart = subst AreDifferent (numbers_are ss ∙ sym hands.numbers) (numbers_differ settled.seats (seats_of ss) few settled.below numbered settled.distinct);
@@ -187,12 +193,28 @@ module _ {L : Type 0} (remaining written : L → Option (List ℕ)) (faults : L 
           every = subst (λ numbers. AllOf (λ (r : Row). IsIn r.seat numbers) log) (numbers_are ss ∙ sym hands.numbers) (subst (AllOf (λ (r : Row). IsIn r.seat (map (λ (s : DeskSeatValue). s.number) (seats_of ss)))) all whole.every);
         };
         once = λ f. once f ∙ ap (weigh f) (sym hands.taken_are);
-        back = back ∙ ap (λ l. option_map (λ others. others ++ l) retired) (sym hands.returned_are);
+        whole = hands.returned_are;
+        part = hands.part;
       }
     where
       numbers_are : (ss : List (Shift L)) → map (λ (s : DeskSeatValue). s.number) (seats_of ss) ≡ map (λ (s : Shift L). s.seat.number) ss
       numbers_are [] = refl
       numbers_are (s ∷ ss) = ap (λ l. s.seat.number ∷ l) (numbers_are ss)
+
+  -- where no link was lost, the run
+  pub run_at_end : (ss : List (Shift L)) (links : List L) (log : List Row) (old new retired retired' : Option (List L)) → CrewAtEnd remaining written faults closed ss links log → AllOf (λ (s : Shift L). s.is_spoiled ≡ false) ss
+      → old ≡ option_map (λ others. links ++ others) new → retired' ≡ option_map (λ others. others ++ all_links ss) retired → IsRun remaining written faults closed links log old new retired retired'
+  run_at_end ss links log old new retired retired' end kept from back = record {
+    hands = end.hands;
+    from = from;
+    crew = end.crew;
+    once = end.once;
+    back = back ∙ ap (λ l. option_map (λ others. others ++ l) retired) (sym (end.whole kept));
+  }
+
+  -- the links that came back are among those that came out of the sessions
+  pub part_at_end : (ss : List (Shift L)) (links returned : List L) (log : List Row) → CrewAtEnd remaining written faults closed ss links log → returned ≡ all_links ss → IsServedInPart remaining written faults closed links returned log
+  part_at_end ss links returned log end same = record { hands = end.hands; crew = end.crew; once = end.once; part = λ f. let weight = ap (weigh f) same in let part = end.part f in omega (arith, weight, part) }
 
 module _ {L : Type 0} where
   -- what was put in weighs as much as what was taken, by the workers and then by who swept

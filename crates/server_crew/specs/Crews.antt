@@ -2,6 +2,7 @@
 use Rattle.std.specs.Prelude.{◌≡◌, ◌≢◌, ◌⊎◌, ℕ, ◌+◌, ◌<◌, ◌≤◌, List, [], ◌∷◌, ◌++◌, length, map, flat_map, Bool, Option, option_map, Result, Ok, Err}
 use Rattle.seat_lock.specs.Lists.{AllOf, IsIn, rows_of}
 use Rattle.troop_entry.specs.declared.row.Row.{Row}
+use Rattle.log_model.specs.Legal.{IsLegal}
 use Rattle.troop_ports.specs.Faults.{Counted}
 use Rattle.link_queue.specs.Balance.{weigh}
 use Rattle.server_crew.specs.declared.serve_error.ServeError.{ServeError}
@@ -46,6 +47,33 @@ module _ {L : Type 0} (remaining written : L → Option (List ℕ)) (faults : L 
     pub once : (f : L → ℕ) → weigh f taken ≡ weigh f (taken_by hands)
     pub back : retired' ≡ option_map (λ others. others ++ returned_by hands) retired
 
+  -- Workers served each of the links taken once, with this log, and the links that came back are among those that came out of these sessions. Both are said by weights:
+  -- however links are weighed, those that came back weigh no more than those that came out.
+  pub record IsServedInPart (taken returned : List L) (log : List Row) : Type 0 where
+    pub hands : List (Hand L)
+    pub crew : IsCrewOf log hands
+    pub once : (f : L → ℕ) → weigh f taken ≡ weigh f (taken_by hands)
+    pub part : (f : L → ℕ) → weigh f returned ≤ weigh f (returned_by hands)
+
+  -- These links were taken from a door, no more than were asked for, and workers served each of them once, with some legal log. Of those that came out of these sessions these
+  -- came back to the door: fewer than were taken, and for each of the others a place is left over.
+  pub record HasDropped (sessions : Option ℕ) (links links' retired retired' : Option (List L)) (places places' : ℕ) : Type 0 where
+    pub taken : List L
+    pub returned : List L
+    pub log : List Row
+    pub legal : IsLegal log
+    pub served : IsServedInPart taken returned log
+    pub from : links ≡ option_map (λ others. taken ++ others) links'
+    pub within : IsWithinAsked sessions (length taken)
+    pub back : retired' ≡ option_map (λ others. others ++ returned) retired
+    pub fewer : length returned < length taken
+    pub left : places' + length returned ≡ places + length taken
+
+  -- Memory was wanting: to begin with, and then the door is as it was; or to keep a link, and then fewer links came back than were taken.
+  abbrev pub HasWanted : Option ℕ → Option (List L) → Option (List L) → Option (List L) → Option (List L) → ℕ → ℕ → ℕ → ℕ → Type 0
+  HasWanted sessions links links' retired retired' places places' count count' =
+      ((links' ≡ links) × (retired' ≡ retired) × (places' ≡ places) × (count' ≡ count)) ⊎ HasDropped sessions links links' retired retired' places places'
+
 -- a fault was counted at a door's fault, and none where the desk is handed out; the count has not fallen
 abbrev pub CountsServe : {T : Type 0} → Result T ServeError → ℕ → ℕ → Type 0
 CountsServe (Ok desk) before now = now ≡ before
@@ -57,19 +85,3 @@ abbrev pub KeepsPlaces : {T : Type 0} → Result T ServeError → ℕ → ℕ �
 KeepsPlaces (Ok desk) before now = now ≡ before
 KeepsPlaces (Err error.DoorFault) before now = now ≡ before
 KeepsPlaces (Err error.Memory) before now = before ≤ now
-
--- These links were taken from a door, no more than were asked for, and these came back to it: fewer than were taken, and for each of the
--- others a place is left over.
-pub record HasDropped {L : Type 0} (sessions : Option ℕ) (links links' retired retired' : Option (List L)) (places places' : ℕ) : Type 0 where
-  pub taken : List L
-  pub returned : List L
-  pub from : links ≡ option_map (λ others. taken ++ others) links'
-  pub within : IsWithinAsked sessions (length taken)
-  pub back : retired' ≡ option_map (λ others. others ++ returned) retired
-  pub fewer : length returned < length taken
-  pub left : places' + length returned ≡ places + length taken
-
--- Memory was wanting: to begin with, and then the door is as it was; or to keep a link, and then fewer links came back than were taken.
-abbrev pub HasWanted : {L : Type 0} → Option ℕ → Option (List L) → Option (List L) → Option (List L) → Option (List L) → ℕ → ℕ → ℕ → ℕ → Type 0
-HasWanted sessions links links' retired retired' places places' faults faults' =
-    ((links' ≡ links) × (retired' ≡ retired) × (places' ≡ places) × (faults' ≡ faults)) ⊎ HasDropped sessions links links' retired retired' places places'

@@ -3,6 +3,7 @@ use Rattle.std.specs.Prelude.{◌≡◌, ◌⊎◌, ℕ, ◌<◌, ◌≤◌, Lis
 use Rattle.seat_lock.specs.Lists.{AllOf}
 use Rattle.troop_entry.specs.declared.row.Row.{Row}
 use Rattle.troop_ports.specs.Bytes.{in_front}
+use Rattle.link_queue.specs.Balance.{weigh}
 use Rattle.session.specs.declared.session_end.SessionEnd.{SessionEnd}
 use Rattle.session.specs.Ends.{CountsEnd, wires}
 use Rattle.session.specs.Sessions.{First, Session}
@@ -44,7 +45,7 @@ module _ {L : Type 0} (remaining written : L → Option (List ℕ)) (faults : L 
     pub first : First
     pub end : SessionEnd
     pub held : List ℕ
-    pub session : Session first seat seen log k.gained end (wires (remaining k.taken) (in_front held (remaining k.returned)) (written k.taken) (written k.returned))
+    pub session : Session first seat seen log k.gained end (wires (remaining k.taken) (in_front held (remaining k.returned)) (remaining k.returned) (written k.taken) (written k.returned))
     pub count : CountsEnd end (faults k.taken) (faults k.returned)
     pub is_closed : closed k.returned ≡ true
 
@@ -54,6 +55,7 @@ module _ {L : Type 0} (remaining written : L → Option (List ℕ)) (faults : L 
     pub served : List (ServedLink L)
     pub taken_are : taken_links served ≡ taken
     pub returned_are : shift.is_spoiled ≡ false → returned_links served ≡ shift.links.items
+    pub part : (f : L → ℕ) → weigh f shift.links.items ≤ weigh f (returned_links served)
     pub few : length shift.links.items ≤ length taken
     pub lost : shift.is_spoiled ≡ true → length shift.links.items < length taken
     pub own : shift.seat.own ≡ gained_rows served

@@ -8,7 +8,7 @@ ghost use Rattle.server_crew.specs.Shifts.{IsShift, all_links, HaveLost};
 ghost use Rattle.server_crew.specs.Workers.{all_taken};
 ghost use Rattle.log_model.specs.Legal.{IsLegal};
 ghost use Rattle.server_crew.specs.Ready.{IsCrewReady};
-ghost use Rattle.server_crew.specs.Crews.{IsRun};
+ghost use Rattle.server_crew.specs.Crews.{IsRun, IsServedInPart};
 
 use crate::crew::Crew;
 use crate::gate::Gate;
@@ -51,7 +51,7 @@ where
     ensures places { D.places door.old ≤ D.places door.new + length crew.end.put }
     ensures lost { result.is_spoiled ≡ true → D.places door.old < D.places door.new + length crew.end.put }
     ensures all_places { result.is_spoiled ≡ false → D.places door.new + length crew.end.put ≡ D.places door.old }
-    ensures back { (returned : List D.L) × (D.retired door.new ≡ option_map (λ others. others ++ returned) (D.retired door.old)) × (D.places door.new + length returned ≡ D.places door.old) }
+    ensures back { (returned : List D.L) × IsServedInPart D.L.Source.remaining D.L.Sink.taken D.L.Source.faults D.L.Source.closed crew.end.put returned result.desk × (D.retired door.new ≡ option_map (λ others. others ++ returned) (D.retired door.old)) × (D.places door.new + length returned ≡ D.places door.old) }
     ensures count { D.faults door.new ≡ D.faults door.old }
 {
     let Crew {

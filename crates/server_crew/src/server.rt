@@ -39,7 +39,7 @@ where
     ensures fault { result ≡ Err ServeError.DoorFault → (taken : List D.L) × (log : List Row) × IsLegal log × IsRun D.L.Source.remaining D.L.Sink.taken D.L.Source.faults D.L.Source.closed taken log (D.links door.old) (D.links door.new) (D.retired door.old) (D.retired door.new) × IsWithinAsked sessions (length taken) }
     ensures cause { CountsServe result (D.faults door.old) (D.faults door.new) }
     ensures places { KeepsPlaces result (D.places door.old) (D.places door.new) }
-    ensures wanting { result ≡ Err ServeError.Memory → HasWanted sessions (D.links door.old) (D.links door.new) (D.retired door.old) (D.retired door.new) (D.places door.old) (D.places door.new) (D.faults door.old) (D.faults door.new) }
+    ensures wanting { result ≡ Err ServeError.Memory → HasWanted D.L.Source.remaining D.L.Sink.taken D.L.Source.faults D.L.Source.closed sessions (D.links door.old) (D.links door.new) (D.retired door.old) (D.retired door.new) (D.places door.old) (D.places door.new) (D.faults door.old) (D.faults door.new) }
 {
     let Ok((hall, first)) = DeskHall::new(alloc, Desk::new(alloc)) else {
         return Err(ServeError::Memory);

@@ -74,7 +74,7 @@ broken tells sessions given shut net out back calm idle fault (taken, log, legal
 
 -- a server for which memory was wanting
 pub short_of : {L D : Type 0} (tells : Telling L D) (sessions : Option ℕ) (given shut : D) (net : NetPort D) (out : Port) → IsShut tells given shut net → IsCalm out → IsUntouched out
-    → HasWanted sessions (tells.links given) (tells.links shut) (tells.retired given) (tells.retired shut) (tells.places given) (tells.places shut) (tells.door_faults given) (tells.door_faults shut) → SaysServed tells sessions outcome.Memory net out
+    → HasWanted tells.remaining tells.written tells.link_faults tells.closed sessions (tells.links given) (tells.links shut) (tells.retired given) (tells.retired shut) (tells.places given) (tells.places shut) (tells.door_faults given) (tells.door_faults shut) → SaysServed tells sessions outcome.Memory net out
 short_of tells sessions given shut net out back calm idle wanted = (calm, inl (record { given = given; shut = shut; is_shut = back; wanted = wanted }), idle)
 
 -- a server that ended as it was asked to

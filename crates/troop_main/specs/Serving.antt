@@ -92,13 +92,13 @@ module _ {L D : Type 0} (tells : Telling L D) where
     pub within : IsWithinAsked sessions (length taken)
     pub fault : Counted (tells.door_faults given) (tells.door_faults shut)
 
-  -- a door of the net came back as it was, or fewer of its links came back than were taken, of which there were no more than were asked for, since
-  -- memory was wanting
+  -- a door of the net came back as it was, or its links were served and fewer came back than were taken, of which there were no more than were asked for,
+  -- since memory was wanting
   pub record HasReturned (sessions : Option ℕ) (net : NetPort D) : Type 0 where
     pub given : D
     pub shut : D
     pub is_shut : IsShut given shut net
-    pub wanted : HasWanted sessions (tells.links given) (tells.links shut) (tells.retired given) (tells.retired shut) (tells.places given) (tells.places shut) (tells.door_faults given) (tells.door_faults shut)
+    pub wanted : HasWanted tells.remaining tells.written tells.link_faults tells.closed sessions (tells.links given) (tells.links shut) (tells.retired given) (tells.retired shut) (tells.places given) (tells.places shut) (tells.door_faults given) (tells.door_faults shut)
 
   -- memory was wanting to serve with, or to print the line of a closed log
   abbrev pub IsShortServed : Option ℕ → NetPort D → Type 0

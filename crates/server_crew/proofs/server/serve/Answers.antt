@@ -1,7 +1,8 @@
-use Rattle.std.proofs.Common.{rules, ◌≡◌, ◌++◌, ◌∙◌, ap, sym, subst, length, arith, inr, All, option_map}
+use Rattle.std.proofs.Common.{rules, ◌≡◌, ◌++◌, ◌∙◌, ap, sym, subst, List, length, arith, inr, All, option_map}
 use Rattle.std.proofs.lemmas.List.{with_items_is}
 use Rattle.server_crew.specs.Accepting.{HasEnough}
 use Rattle.server_crew.specs.Workers.{IsAtWork, indexes}
+use Rattle.server_crew.specs.Crews.{IsServedInPart}
 use Rattle.server_crew.proofs.SameSeats.{indexes_same}
 use Rattle.server_crew.proofs.IsRun.{run_from}
 use Rattle.server_crew.proofs.server.serve.Goals as goal
@@ -58,17 +59,21 @@ returns-clause-served g c =
 pub returns-then-closed-clause-wanting : goal.returns-then-closed-clause-wanting
 returns-then-closed-clause-wanting g c = λ _.
     let taking = c.run-failed.ensures.taken in
-    let put = ap length (taking.moved.put ∙ ap (λ l. l ++ taking.links) c.in-Ok-form.ensures.put) in
+    let is : c.run-failed.new.end.put ≡ taking.links = taking.moved.put ∙ ap (λ l. l ++ taking.links) c.in-Ok-form.ensures.put in
+    let put = ap (λ (l : List g.row.D-L.Denot). length l) is in
     let before = taking.moved.places_are in
     let lost = c.close_down-closed.ensures.lost c.if-closed.true in
     let back = c.close_down-closed.ensures.back in
-    let places = back.2 in
+    let places = back.3 in
     inr (record {
       taken = taking.links;
       returned = back.0;
+      log = c.close_down-closed.result.desk;
+      legal = c.close_down-closed.ensures.legal;
+      served = subst (λ (l : List g.row.D-L.Denot). IsServedInPart g.D.L.Source.remaining g.D.L.Sink.taken g.D.L.Source.faults g.D.L.Source.closed l back.0 c.close_down-closed.result.desk) is back.1;
       from = taking.moved.from ∙ ap (option_map (λ others. taking.links ++ others)) (sym c.close_down-closed.ensures.links);
       within = taking.within;
-      back = back.1 ∙ ap (option_map (λ others. others ++ back.0)) c.run-failed.ensures.retired;
+      back = back.2 ∙ ap (option_map (λ others. others ++ back.0)) c.run-failed.ensures.retired;
       fewer = omega (arith, put, lost, places);
       left = omega (arith, before, places);
     })
