@@ -1,11 +1,11 @@
 #!/usr/bin/env python3
-"""Plays links and performers against `troop serve` on the loopback address.
+"""Plays links and performers against `troop serve` on the loopback address, and gives `troop replay` as much input as it takes.
 
     tests/loopback.py [PROGRAM]
 
-PROGRAM is crates/troop/out/troop where it isn't given. Two servers are started, one behind the other, each of which ends behind a
-known number of links; they are the only processes that are started, and the only ones that are ended, by their numbers, where
-something went wrong. Each wait has an end. The last line says what was seen.
+PROGRAM is crates/troop/out/troop where it isn't given. Three servers are started, one behind the other, each of which ends behind a
+known number of links, and two replays; they are the only processes that are started, and the only ones that are ended, by their
+numbers, where something went wrong. Each wait has an end. The last line says what was seen.
 """
 import json
 import os
@@ -24,6 +24,10 @@ PERFORMERS = 8
 TYPING = 3.0
 PATIENCE = 60.0
 MOST_JOINS = 4_096
+WORKERS = 64
+QUIET = 1.0
+MOST_INPUT = 1 << 30
+INPUT_PATIENCE = 600.0
 
 
 # ---- Operations: lists of counts kept (> 0), counts deleted (< 0) and texts put in.
@@ -485,6 +489,54 @@ def crowd(server):
     print(f"loopback: {MOST_JOINS} joins, and one too many")
 
 
+def full_house(server):
+    """So many sessions are served at once, and one more only once one of them has ended."""
+    wait_for(server).close()
+    links = [Link() for _ in range(WORKERS)]
+    for link in links:
+        link.send({"call": "join", "lang": "lines", "name": "eve"})
+    expect(sorted(link.read()["who"] for link in links), list(range(1, WORKERS + 1)))
+    late = Link()
+    late.send({"call": "join", "lang": "lines", "name": "late"})
+    ready, _, _ = select.select([late.socket], [], [], QUIET)
+    expect(ready, [])
+    links[0].close()
+    expect(late.read()["who"], WORKERS + 1)
+    for link in links[1:] + [late]:
+        link.close()
+    out, err = server.communicate(timeout=PATIENCE)
+    expect((server.returncode, err), (0, b""))
+    expect(out, b'{"entries":%d,"marks":[],"text":""}\n' % (2 * (WORKERS + 1)))
+    print(f"loopback: {WORKERS} sessions at once, and one that waits for its turn")
+
+
+def replay_blank(program, behind):
+    """What a replay comes to whose script is as many bytes as it takes, in blank lines, and then these."""
+    child = subprocess.Popen([program, "replay"], stdin=subprocess.PIPE, stdout=subprocess.PIPE, stderr=subprocess.PIPE)
+    timer = threading.Timer(INPUT_PATIENCE, child.kill)
+    timer.start()
+    line = b" " * (LIMIT - 1) + b"\n"
+    try:
+        try:
+            for _ in range(MOST_INPUT // len(line)):
+                child.stdin.write(line)
+        except BrokenPipeError:
+            pass
+        out, err = child.communicate(behind, timeout=INPUT_PATIENCE)
+        return child.returncode, out, err
+    finally:
+        timer.cancel()
+        if child.poll() is None:
+            child.kill()
+            child.wait()
+
+
+def large_input(program):
+    expect(replay_blank(program, b""), (0, b'{"entries":0,"marks":[],"text":""}\n', b""))
+    expect(replay_blank(program, b"\n"), (10, b"", b"troop: too much input\n"))
+    print(f"loopback: a script of {MOST_INPUT} bytes, and one byte too many")
+
+
 def with_server(program, links, scene):
     """Plays a scene of so many links against a server of its own."""
     Link.port, Link.opened = free_port(), 0
@@ -503,6 +555,8 @@ def main():
     program = sys.argv[1] if len(sys.argv) > 1 else PROGRAM
     if not os.path.exists(program):
         sys.exit(f"loopback: there is no {program}")
+    large_input(program)
+    with_server(program, 1 + WORKERS + 1, full_house)
     with_server(program, 1 + MOST_JOINS + 1, crowd)
     with_server(program, 1 + sum(count for _, count in ALONE) + 2 * PERFORMERS, play)
 

@@ -267,8 +267,10 @@ fn commands(alloc: Global, evening: &Evening) -> Result<BytesSource, Fail> {
     Ok(BytesSource::new(alloc, &bytes, &[], evening.reads)?)
 }
 
-// A shelf with a boot text, and a file that is too large for one.
+// A shelf with a boot text, a file that is as large as one may be, and one that is larger.
 fn shelf(alloc: Global) -> Result<ListShelf, Fail> {
+    let mut full = Vec::new(alloc);
+    full.resize(1_048_576, b'x')?;
     let mut big = Vec::new(alloc);
     big.resize(1_048_577, b'x')?;
     let files = vec![in alloc;
@@ -276,6 +278,7 @@ fn shelf(alloc: Global) -> Result<ListShelf, Fail> {
             String::from_str(alloc, "boot")?,
             Vec::from_slice(alloc, b"go\n")?
         ),
+        (String::from_str(alloc, "full")?, full),
         (String::from_str(alloc, "big")?, big),
     ]?;
     Ok(ListShelf::new(alloc, files, &[])?)
@@ -458,6 +461,12 @@ const WORDS: &[(&[&str], u8)] = &[
     (
         &[
             "perform", "here", "ann", "lines", "--boot", "boot", "--", "cat",
+        ],
+        6,
+    ),
+    (
+        &[
+            "perform", "--boot", "full", "here", "ann", "lines", "--", "cat",
         ],
         6,
     ),

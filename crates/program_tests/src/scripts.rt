@@ -5,7 +5,9 @@ use replay_run::{
     report_parts,
 };
 use std::alloc::Global;
+use std::sync::Wait;
 use std::test::Fail;
+use std::thread::Threads;
 use troop_main::troop;
 use troop_ports::{BytesLink, BytesSink, BytesSource, ListDoor, ListNet, ListShelf};
 
@@ -35,6 +37,10 @@ const SCRIPT: &str = r#"["guest","ann","lines"]
 
 const NOBODY: &str = "{\"no\":\"member\",\"who\":2}\n";
 
+/// All that it prints.
+const PRINTED: &str =
+    "{\"no\":\"member\",\"who\":2}\n{\"entries\":2,\"marks\":[[1,2]],\"text\":\"hi\"}\n";
+
 /// Two performers type at once, and are shown while one holds edits back.
 const BUFFER: &str = r#"["join","ann","lines",""]
 ["join","bob","lines",""]
@@ -58,6 +64,10 @@ const BUFFER: &str = r#"["join","ann","lines",""]
 ["take",2]
 "#;
 
+/// The line of a drill of no steps.
+const UNDRILLED: &str =
+    "{\"blocks\":0,\"entries\":3,\"equal\":true,\"lives\":0,\"notes\":0,\"seed\":1,\"steps\":0,\"unfit\":0}\n";
+
 const BUFFER_SHOWN: &str =
     r#"{"awaits":2,"marks":[[1,3],[2,1]],"name":"ann","taken":3,"text":"abcz","who":1}
 {"lives":[],"who":1}
@@ -76,7 +86,7 @@ const DONE: Run = Run {
     writes: &[],
     room: 100,
     code: 0,
-    out: "{\"no\":\"member\",\"who\":2}\n{\"entries\":2,\"marks\":[[1,2]],\"text\":\"hi\"}\n",
+    out: PRINTED,
     err: "",
 };
 
@@ -194,37 +204,94 @@ pub fn words_of(alloc: Global, words: &[&str]) -> Result<Vec<String>, Fail> {
     Ok(owned)
 }
 
-const WORDS: [(&[&str], u8); 4] = [
-    (&["replay"], 0),
-    (&[], 2),
-    (&["replay", "now"], 2),
-    (&["dance"], 2),
+/// Words, and then their status and what is printed on the output.
+const WORDS: &[(&[&str], u8, &str)] = &[
+    (&["replay"], 0, PRINTED),
+    (&["drill", "1", "0"], 0, UNDRILLED),
+    (
+        &["drill", "1", "1"],
+        0,
+        "{\"blocks\":0,\"entries\":3,\"equal\":true,\"lives\":0,\"notes\":0,\"seed\":1,\"steps\":1,\"unfit\":1}\n",
+    ),
+    (
+        &["drill", "00000000000000000001", "00000000000000000000"],
+        0,
+        UNDRILLED,
+    ),
+    (
+        &["drill", "18446744073709551615", "0"],
+        0,
+        "{\"blocks\":0,\"entries\":3,\"equal\":true,\"lives\":0,\"notes\":0,\"seed\":18446744073709551615,\"steps\":0,\"unfit\":0}\n",
+    ),
+    (
+        &["jam", "2", "3", "7"],
+        0,
+        "{\"calls\":3,\"entries\":14,\"equal\":true,\"performers\":2}\n",
+    ),
+    (
+        &["jam", "64", "0", "1"],
+        0,
+        "{\"calls\":0,\"entries\":64,\"equal\":true,\"performers\":64}\n",
+    ),
+    (&[], 2, ""),
+    (&["replay", "now"], 2, ""),
+    (&["replay", "--help"], 2, ""),
+    (&["dance"], 2, ""),
+    (&["help"], 2, ""),
+    (&["--help"], 2, ""),
+    (&["--version"], 2, ""),
+    (&["drill"], 2, ""),
+    (&["drill", "1"], 2, ""),
+    (&["drill", "1", "0", "0"], 2, ""),
+    (&["drill", "18446744073709551616", "0"], 2, ""),
+    (&["drill", "1", "100001"], 2, ""),
+    (&["drill", "000000000000000000001", "0"], 2, ""),
+    (&["drill", "+1", "0"], 2, ""),
+    (&["drill", "", "0"], 2, ""),
+    (&["drill", "1", "0", "--", "cat"], 2, ""),
+    (&["jam", "2", "3"], 2, ""),
+    (&["jam", "0", "3", "7"], 2, ""),
+    (&["jam", "65", "3", "7"], 2, ""),
+    (&["jam", "2", "1001", "7"], 2, ""),
+    (&["jam", "2", "3", "18446744073709551616"], 2, ""),
+    (&["jam", "2", "3", "7", "7"], 2, ""),
 ];
+
+// Whether a run of these words on the script has this status, prints this, and says on the error stream nothing else than how it is used.
+fn comes_to<R: Threads + Wait + Sync>(
+    rt: &R,
+    alloc: Global,
+    words: &[&str],
+    code: u8,
+    printed: &str,
+) -> Result<bool, Fail> {
+    let words = words_of(alloc, words)?;
+    let mut input = BytesSource::new(alloc, SCRIPT.as_bytes(), &[], &[])?;
+    let mut out = BytesSink::new(alloc, 200, &[])?;
+    let mut err = BytesSink::new(alloc, 100, &[])?;
+    let doors = Vec::<ListDoor<BytesLink>>::new(alloc);
+    let mut net = ListNet::new(alloc, doors, Vec::<BytesLink>::new(alloc), &[])?;
+    let mut shelf = ListShelf::new(alloc, Vec::new(alloc), &[])?;
+    let (status, _hatch) = troop(
+        rt,
+        alloc,
+        &words,
+        &mut input,
+        &mut out,
+        &mut err,
+        &mut net,
+        ScriptHatch::new(alloc)?,
+        &mut shelf,
+    );
+    let line = if code == 0 { "" } else { "troop: usage\n" };
+    Ok(status.code == code && out.bytes() == printed.as_bytes() && err.bytes() == line.as_bytes())
+}
 
 #[test]
 fn words_choose_the_command(rt: HostRuntime) -> Result<(), Fail> {
-    for (words, code) in &WORDS {
-        let words = words_of(rt.alloc(), words)?;
-        let mut input = BytesSource::new(rt.alloc(), SCRIPT.as_bytes(), &[], &[])?;
-        let mut out = BytesSink::new(rt.alloc(), 100, &[])?;
-        let mut err = BytesSink::new(rt.alloc(), 100, &[])?;
-        let doors = Vec::<ListDoor<BytesLink>>::new(rt.alloc());
-        let mut net = ListNet::new(rt.alloc(), doors, Vec::<BytesLink>::new(rt.alloc()), &[])?;
-        let mut shelf = ListShelf::new(rt.alloc(), Vec::new(rt.alloc()), &[])?;
-        let (status, _hatch) = troop(
-            &rt,
-            rt.alloc(),
-            &words,
-            &mut input,
-            &mut out,
-            &mut err,
-            &mut net,
-            ScriptHatch::new(rt.alloc())?,
-            &mut shelf,
-        );
-        assert_eq!(rt; status.code, *code);
-        let line = if *code == 0 { "" } else { "troop: usage\n" };
-        assert_eq!(rt; err.bytes(), line.as_bytes());
+    for (number, (words, code, printed)) in WORDS.iter().enumerate() {
+        let came = comes_to(&rt, rt.alloc(), words, *code, printed)?;
+        assert!(rt; came, "words {number}");
     }
     Ok(())
 }

@@ -12,10 +12,19 @@ use troop_ports::{BytesLink, BytesSink, BytesSource, ListDoor, ListNet, ListShel
 const LINES: &[u8] =
     b"{\"call\":\"join\",\"lang\":\"lines\",\"name\":\"ann\"}\n{\"call\":\"edit\",\"op\":[],\"seen\":0}\n";
 
-/// Words, which calls fail, and then what a server of one door with two such links comes to, where the net stands at `here`.
+/// A join, a line that is no request, and an edit.
+const UP: &[u8] =
+    b"{\"call\":\"join\",\"lang\":\"lines\",\"name\":\"ann\"}\n{\"call\":\"edit\"}\n{\"call\":\"edit\",\"op\":[\"hi\"],\"seen\":1}\n";
+
+/// Words, what links give, which calls fail, and then what a server of one door with two such links comes to, where the net stands at
+/// `here`.
 #[derive(Clone, Copy)]
 struct Evening {
     words: &'static [&'static str],
+    /// What each link gives.
+    given: &'static [u8],
+    /// The lengths of the pieces in which it comes.
+    pieces: &'static [u64],
     /// The numbers of the net's failing calls.
     listens: &'static [u64],
     /// The numbers of the door's failing calls.
@@ -31,10 +40,14 @@ struct Evening {
     retired: usize,
     /// How many doors came back.
     shut: usize,
+    /// What was written on the first link that came back, where no other link decides it.
+    written: Option<&'static str>,
 }
 
 const BOTH: Evening = Evening {
     words: &["serve", "here"],
+    given: LINES,
+    pieces: &[],
     listens: &[],
     accepts: &[],
     writes: &[],
@@ -44,11 +57,13 @@ const BOTH: Evening = Evening {
     err: "",
     retired: 2,
     shut: 1,
+    written: None,
 };
 
 const ONE: Evening = Evening {
     out: "{\"entries\":3,\"marks\":[],\"text\":\"\"}\n",
     retired: 1,
+    written: Some("{\"at\":0,\"who\":1}\n{\"at\":1,\"who\":1}\n"),
     ..BOTH
 };
 
@@ -83,6 +98,15 @@ const EVENINGS: &[Evening] = &[
     },
     Evening {
         words: &["serve", "--sessions=00000000000000000001", "here"],
+        ..ONE
+    },
+    // Byte by byte.
+    Evening {
+        words: &["serve", "here", "--sessions", "1"],
+        given: UP,
+        pieces: &[1; 100],
+        out: "{\"entries\":3,\"marks\":[[1,2]],\"text\":\"hi\"}\n",
+        written: Some("{\"at\":0,\"who\":1}\n{\"line\":2,\"no\":\"bad\"}\n{\"at\":1,\"who\":1}\n"),
         ..ONE
     },
     Evening {
@@ -170,31 +194,47 @@ const EVENINGS: &[Evening] = &[
         ..USAGE
     },
     Evening {
+        words: &["serve", "here", "--sessions", "1", "--sessions", "1"],
+        ..USAGE
+    },
+    Evening {
         words: &["serve", "--", "here"],
         ..USAGE
     },
 ];
 
-// A link that gives these lines.
-fn link(alloc: Global) -> Result<BytesLink, Fail>
+// A link of such an evening.
+fn link(alloc: Global, evening: &Evening) -> Result<BytesLink, Fail>
     ensures { IfOk result (λ link. link.is_closed ≡ false) }
 {
-    Ok(BytesLink::new(alloc, LINES, &[], &[], 1 << 16, &[])?)
+    Ok(BytesLink::new(alloc, evening.given, evening.pieces, &[], 1 << 16, &[])?)
 }
 
 // A door with two such links.
-fn door(alloc: Global, fails: &[u64]) -> Result<ListDoor<BytesLink>, Fail> {
-    let first = link(alloc)?;
-    let second = link(alloc)?;
+fn door(alloc: Global, evening: &Evening) -> Result<ListDoor<BytesLink>, Fail> {
+    let first = link(alloc, evening)?;
+    let second = link(alloc, evening)?;
     let links = vec![in alloc; first, second]?;
-    Ok(ListDoor::new(alloc, links, fails)?)
+    Ok(ListDoor::new(alloc, links, evening.accepts)?)
+}
+
+// What was written on the first link that came back to the first of these doors.
+fn first_written(doors: &[ListDoor<BytesLink>]) -> &[u8] {
+    let links = match doors {
+        [door, ..] => door.retired(),
+        [] => &[],
+    };
+    match links {
+        [link, ..] => link.written(),
+        [] => &[],
+    }
 }
 
 #[test]
 fn words_and_faults_decide_how_a_server_ends(rt: HostRuntime) -> Result<(), Fail> {
     for evening in EVENINGS {
         let words = words_of(rt.alloc(), evening.words)?;
-        let doors = vec![in rt.alloc(); door(rt.alloc(), evening.accepts)?]?;
+        let doors = vec![in rt.alloc(); door(rt.alloc(), evening)?]?;
         let links = Vec::<BytesLink>::new(rt.alloc());
         let here = String::from_str(rt.alloc(), "here")?;
         let mut net = ListNet::new(rt.alloc(), doors, links, evening.listens)?.standing_at(here);
@@ -222,6 +262,9 @@ fn words_and_faults_decide_how_a_server_ends(rt: HostRuntime) -> Result<(), Fail
             .first()
             .map_or(0, |door| door.retired().len());
         assert_eq!(rt; retired, evening.retired);
+        if let Some(written) = evening.written {
+            assert_eq!(rt; first_written(net.shut_doors()), written.as_bytes());
+        }
     }
     Ok(())
 }

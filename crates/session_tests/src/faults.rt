@@ -1,7 +1,7 @@
-//! Links that are lost, and lines over the limit.
+//! Links that are lost, lines at the limit, and lines over it.
 use crate::links::{ROOM, Reading, link_of, new_hall};
 use session::{SessionEnd, serve_link};
-use std::alloc::Global;
+use std::alloc::{AllocError, Global};
 use std::process::Abort;
 use std::sync::Wait;
 use std::test::Fail;
@@ -71,5 +71,41 @@ fn a_line_over_the_limit_ends_a_session(rt: HostRuntime) -> Result<(), Fail> {
     let written = b"{\"at\":0,\"who\":1}\n{\"line\":2,\"no\":\"long\"}\n".as_slice();
     assert_eq!(rt; second.written(), written);
     assert_eq!(rt; hall.known(&rt, &mut seat, 1).left, Some(1));
+    Ok(())
+}
+
+/// How many bytes a line may have.
+const LIMIT: usize = 1_048_576;
+
+/// A join, a line that is no request, and a leave.
+const SHORT: &[&[u8]] = &[
+    b"{\"call\":\"join\",\"lang\":\"lines\",\"name\":\"ann\"}",
+    b"x",
+    b"{\"call\":\"leave\"}",
+];
+
+// These lines, each with so many spaces behind it that it is as long as a line may be.
+fn padded(alloc: Global, lines: &[&[u8]]) -> Result<Vec<u8>, AllocError> {
+    let mut bytes = Vec::new(alloc);
+    for line in lines {
+        let mut long = Vec::from_slice(alloc, line)?;
+        long.resize(LIMIT, b' ')?;
+        bytes.extend_from_slice(&long)?;
+        bytes.push(b'\n')?;
+    }
+    Ok(bytes)
+}
+
+#[test]
+fn lines_at_the_limit_are_read(rt: HostRuntime) -> Result<(), Fail> {
+    let alloc = rt.alloc();
+    let (hall, mut seat) = new_hall(alloc)?;
+    let bytes = padded(alloc, SHORT)?;
+    let mut link = BytesLink::new(alloc, &bytes, &[], &[], ROOM, &[])?;
+    let end = serve_link(&rt, alloc, &hall, &mut seat, &mut link);
+    assert_eq!(rt; end, SessionEnd::Left);
+    let written =
+        b"{\"at\":0,\"who\":1}\n{\"line\":2,\"no\":\"bad\"}\n{\"at\":1,\"who\":1}\n".as_slice();
+    assert_eq!(rt; link.written(), written);
     Ok(())
 }
