@@ -6,6 +6,7 @@ import re
 TOP = os.path.dirname(os.path.dirname(os.path.abspath(__file__)))
 PARTS = ["src", "specs", "proofs"]
 MOST_TOGETHER = 24
+COMMENT = ("//", "--")
 
 REFUSED, BY_NAME, BY_LIMIT, PROVED, BAD, UNSURE = "refused", "by a name", "by a limit", "STILL PROVED", "bad", "unsure"
 SETTLED = (REFUSED, BY_NAME, BY_LIMIT, PROVED, BAD)
@@ -152,7 +153,7 @@ def crates():
 
 
 def checksum(crate):
-    """Of the crate's own files."""
+    """Of the crate's own files, without the lines that are comments."""
     total = hashlib.sha256()
     for part in PARTS:
         for here, folders, names in os.walk(os.path.join(TOP, "crates", crate, part)):
@@ -160,8 +161,7 @@ def checksum(crate):
             for name in sorted(names):
                 full = os.path.join(here, name)
                 total.update(os.path.relpath(full, TOP).encode() + b"\0")
-                with open(full, "rb") as file:
-                    total.update(file.read())
+                total.update("\n".join(line for line in read(full).split("\n") if not line.lstrip().startswith(COMMENT)).encode())
     return total.hexdigest()[:16]
 
 
