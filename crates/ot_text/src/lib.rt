@@ -20,8 +20,8 @@ mod text;
 pub use builder::OpBuilder;
 pub use effect::{ApplyError, apply};
 pub use laws::{
-    effect_law, equal_images_law, gaps_law, norm_append_law, norm_law, normal_form_law, room_law,
-    same_op_law,
+    effect_law, equal_images_law, gaps_law, map_law, norm_append_law, norm_law, normal_form_law,
+    room_law, same_op_law,
 };
 pub use op::{MAX_LEN, Op};
 pub use part::Part;

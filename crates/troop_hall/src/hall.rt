@@ -116,6 +116,7 @@ impl DeskHall {
         requires { IsDeskSeat self.now seat.old }
         ensures hall { IsDeskSeat self.now seat.new × IsLater seat.old seat.new }
         ensures entries { IfOk result (λ found. found.items ≡ drop start (entries seat.new.seen)) }
+        ensures wanting { OnErr result (start < length seat.new.seen) }
         ensures fits { length seat.new.seen < 2 ^ 64 }
         ensures own { seat.new.own ≡ seat.old.own }
         ensures legal { IsLegal seat.new.seen }
@@ -124,7 +125,7 @@ impl DeskHall {
             rt,
             seat,
             |desk: &Desk| -> Result<Vec<Entry>, AllocError>
-                ensures { IfOk result (λ found. found.items ≡ drop start (entries desk.entry.now)) × (length desk.entry.now < 2 ^ 64) }
+                ensures { IfOk result (λ found. found.items ≡ drop start (entries desk.entry.now)) × OnErr result (start < length desk.entry.now) × (length desk.entry.now < 2 ^ 64) }
             { entries_from(desk, start) },
         )
     }

@@ -1,5 +1,5 @@
 //! What is read off the desk while it is lent.
-ghost use Rattle.std.specs.Prelude.{◌≡◌, ◌<◌, ◌^◌, length, drop, option_map, Option, Some, None, IfOk, ℕ};
+ghost use Rattle.std.specs.Prelude.{◌≡◌, ◌<◌, ◌^◌, length, drop, option_map, Option, Some, None, IfOk, OnErr, ℕ};
 ghost use Rattle.std.specs.List.{position_from};
 ghost use Rattle.log_model.specs.Log.{entries, has_join, is_join_by, is_leave_by};
 ghost use Rattle.troop_hall.specs.Knowledge.{join_at, known_at};
@@ -22,6 +22,7 @@ pub struct Known {
 /// The entries of the desk from this position on.
 pub(crate) fn entries_from(desk: &Desk, start: u64) -> Result<Vec<Entry>, AllocError>
     ensures entries { IfOk result (λ found. found.items ≡ drop start (entries desk.now)) }
+    ensures wanting { OnErr result (start < length desk.now) }
     ensures fits { length desk.now < 2 ^ 64 }
 {
     let end = desk.length();

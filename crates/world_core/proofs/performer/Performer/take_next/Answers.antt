@@ -36,7 +36,7 @@ pub unreachable-requires : goal.unreachable-requires
 unreachable-requires c =
     not_none c.args.desk.now c.taken-at.result (omega (arith, c.length.ensures, c.if-at-length.false))
     (first_entry (entries c.args.desk.now) c.taken-at.result (c.taken-at.result + 1 - c.taken-at.result) None (omega arith)
-    (ap (λ es. slice_get es 0) (sym (c.deref.ensures.value ∙ c.in_ok-found.ensures)) ∙ sym c.in_default.ensures.value))
+    (ap (λ es. slice_get es 0) (sym (c.deref.ensures.value ∙ c.in_ok-found.ensures.entries)) ∙ sym c.in_default.ensures.value))
 
 pub take-requires : goal.take-requires
 take-requires c =
@@ -44,7 +44,7 @@ take-requires c =
     (some_next c.args.desk.now (machine c.args.self.now.stage.staged) c.in-Some.entry.now (sym c.is_gone.ensures ∙ c.if-is_gone.false)
     (subst (λ (n : ℕ). slice_get (entries c.args.desk.now) n ≡ Some c.in-Some.entry.now) c.taken-at.ensures
     (first_entry (entries c.args.desk.now) c.taken-at.result (c.taken-at.result + 1 - c.taken-at.result) (Some c.in-Some.entry.now) (omega arith)
-    (ap (λ es. slice_get es 0) (sym (c.deref.ensures.value ∙ c.in_ok-found.ensures)) ∙ sym c.in-Some.ensures.value))))
+    (ap (λ es. slice_get es 0) (sym (c.deref.ensures.value ∙ c.in_ok-found.ensures.entries)) ∙ sym c.in-Some.ensures.value))))
 
 pub returns-in_err-take-clause-wanting : goal.returns-in_err-take-clause-wanting
 returns-in_err-take-clause-wanting c =
@@ -60,7 +60,7 @@ returns-clause-state c =
     let next = some_next c.args.desk.now (machine c.args.self.now.stage.staged) c.in-Some.entry.now (sym c.is_gone.ensures ∙ c.if-is_gone.false)
     (subst (λ (n : ℕ). slice_get (entries c.args.desk.now) n ≡ Some c.in-Some.entry.now) c.taken-at.ensures
     (first_entry (entries c.args.desk.now) c.taken-at.result (c.taken-at.result + 1 - c.taken-at.result) (Some c.in-Some.entry.now) (omega arith)
-    (ap (λ es. slice_get es 0) (sym (c.deref.ensures.value ∙ c.in_ok-found.ensures)) ∙ sym c.in-Some.ensures.value))) in
+    (ap (λ es. slice_get es 0) (sym (c.deref.ensures.value ∙ c.in_ok-found.ensures.entries)) ∙ sym c.in-Some.ensures.value))) in
     taken_state c.args.desk.now c.args.self.now
     (record { who = c.args.self.now.who; name = c.args.self.now.name; stage = c.take.new.stage; waiting = c.take.new.self; driver = c.args.self.now.driver })
     c.in-Some.entry.now next refl refl c.in_ok-take.ensures.stage c.in_ok-take.ensures.blocks
@@ -70,7 +70,7 @@ returns-clause-kept c =
     let next = some_next c.args.desk.now (machine c.args.self.now.stage.staged) c.in-Some.entry.now (sym c.is_gone.ensures ∙ c.if-is_gone.false)
     (subst (λ (n : ℕ). slice_get (entries c.args.desk.now) n ≡ Some c.in-Some.entry.now) c.taken-at.ensures
     (first_entry (entries c.args.desk.now) c.taken-at.result (c.taken-at.result + 1 - c.taken-at.result) (Some c.in-Some.entry.now) (omega arith)
-    (ap (λ es. slice_get es 0) (sym (c.deref.ensures.value ∙ c.in_ok-found.ensures)) ∙ sym c.in-Some.ensures.value))) in
+    (ap (λ es. slice_get es 0) (sym (c.deref.ensures.value ∙ c.in_ok-found.ensures.entries)) ∙ sym c.in-Some.ensures.value))) in
     kept_taken c.args.self.now
     (record { who = c.args.self.now.who; name = c.args.self.now.name; stage = c.take.new.stage; waiting = c.take.new.self; driver = c.args.self.now.driver })
     c.in-Some.entry.now c.in_ok-take.ensures.stage (c.requires.fits c.in-Some.entry.now next).1.place c.in_ok-take.ensures.blocks refl refl c.requires.kept
@@ -82,7 +82,7 @@ returns-clause-stage c =
       some_next c.args.desk.now (machine c.args.self.now.stage.staged) c.in-Some.entry.now (sym c.is_gone.ensures ∙ c.if-is_gone.false)
           (subst (λ (n : ℕ). slice_get (entries c.args.desk.now) n ≡ Some c.in-Some.entry.now) c.taken-at.ensures
           (first_entry (entries c.args.desk.now) c.taken-at.result (c.taken-at.result + 1 - c.taken-at.result) (Some c.in-Some.entry.now) (omega arith)
-          (ap (λ es. slice_get es 0) (sym (c.deref.ensures.value ∙ c.in_ok-found.ensures)) ∙ sym c.in-Some.ensures.value))),
+          (ap (λ es. slice_get es 0) (sym (c.deref.ensures.value ∙ c.in_ok-found.ensures.entries)) ∙ sym c.in-Some.ensures.value))),
       c.in_ok-take.ensures.stage,
     )
 
