@@ -1,11 +1,12 @@
 -- Where the outstanding operation is, one row or one entry further.
-use Rattle.std.proofs.Common.{◌≡◌, ℕ, suc, true, false, if◌then◌else◌, Option, None, Some, List, [], ◌∷◌, length, take, drop, slice_get, refl, sym, ap, ◌∙◌}
+use Rattle.std.proofs.Common.{◌≡◌, ℕ, suc, ◌+◌, ◌≤◌, Bool, true, false, if◌then◌else◌, Option, None, Some, List, [], ◌∷◌, length, take, drop, slice_get, refl, sym, ap, ◌∙◌, inl, inr, ⊎_elim, ◌⊎◌, arith}
 use Rattle.ot_text.specs.Change.{Change, base}
 use Rattle.ot_transform.specs.Chain.{through}
 use Rattle.troop_entry.specs.declared.row.Row.{Row}
 use Rattle.log_model.specs.Log.{ops, doc}
 use Rattle.agreement.specs.Agreement.{is_edit_by, edit_positions, positions_ahead, op_of_row, op_at, IsAccountedFor}
 use Rattle.log_model.proofs.Lists.{drop_next, nothing_left}
+use Rattle.agreement.proofs.Dropped.{get_drop}
 
 ahead_next : (log : List Row) (own t : ℕ) (row : Row) → slice_get log t ≡ Some row → positions_ahead log own t ≡ (if is_edit_by own row then t ∷ positions_ahead log own (suc t) else positions_ahead log own (suc t))
 ahead_next log own t row e = ap (edit_positions own t) (drop_next log t row e)
@@ -64,14 +65,28 @@ unserved_point log own t seen op (Some u) (f ∷ []) es is h =
       h.ahead,
     )
 
+one_there : (b : Bool) (at p : ℕ) (ps : List ℕ) → (if b then at ∷ ps else ps) ≡ p ∷ [] → ((b ≡ true) × (p ≡ at)) ⊎ (ps ≡ p ∷ [])
+one_there true at p ps e = inl (refl, cc)
+one_there false at p ps e = inr e
+
+-- the one position that is listed is that of an edit of the performer
+pub listed_row : (who at p : ℕ) (rows : List Row) → edit_positions who at rows ≡ p ∷ [] → (k : ℕ) × (row : Row) × (slice_get rows k ≡ Some row) × (is_edit_by who row ≡ true) × (p ≡ at + k)
+listed_row who at p [] e = absurd (cc)
+listed_row who at p (x ∷ rows) e =
+    ⊎_elim
+    (λ l. (0, x, refl, l.0, omega (arith, l.1)))
+    (λ r. let h = listed_row who (suc at) p rows r in (suc h.0, h.1, h.2, h.3, omega (arith, h.4)))
+    (one_there (is_edit_by who x) at p (edit_positions who (suc at) rows) e)
+
 -- an operation is outstanding and no edit waits
 pub served_point : (log : List Row) (own t : ℕ) (u : Change) (o : Option Change) (fs : List (ℕ × Change)) → o ≡ Some u → fs ≡ [] → IsAccountedFor log own t o fs
-    → (s : ℕ) × (positions_ahead log own t ≡ s ∷ []) × (op_at log s ≡ Some (through u (ops (drop t (take s log)))))
+    → (s : ℕ) × (row : Row) × (positions_ahead log own t ≡ s ∷ []) × (op_at log s ≡ Some (through u (ops (drop t (take s log))))) × (slice_get log s ≡ Some row) × (is_edit_by own row ≡ true) × (t ≤ s)
 served_point log own t u None fs is none h = absurd (cc)
 served_point log own t u (Some w) (f ∷ fs) is none h = absurd (cc)
 served_point log own t u (Some w) [] is none h =
     let same : w ≡ u = cc in
-    (h.at, h.ahead, h.moved ∙ ap (λ x. Some (through x (ops (drop t (take h.at log))))) same)
+    let r = listed_row own t h.at (drop t log) h.ahead in
+    (h.at, r.1, h.ahead, h.moved ∙ ap (λ x. Some (through x (ops (drop t (take h.at log))))) same, sym (get_drop log t r.0 h.at r.4) ∙ r.2, r.3, omega (arith, r.4))
 
 -- nothing is outstanding
 pub none_point : (log : List Row) (own t : ℕ) (o : Option Change) (fs : List (ℕ × Change)) → o ≡ None → IsAccountedFor log own t o fs → (fs ≡ []) × (positions_ahead log own t ≡ [])

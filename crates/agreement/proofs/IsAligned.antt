@@ -23,7 +23,7 @@ use Rattle.stage_state.proofs.IsPlayed.{stage_placed}
 use Rattle.agreement.specs.Agreement.{SeenRises, lane_waiting, lane_pairs, pairs_by, is_own_join, Agrees}
 use Rattle.agreement.specs.Aligned.{IsAligned}
 use Rattle.agreement.specs.Stages.{is_local}
-use Rattle.log_model.proofs.Lists.{slice_get-append, within_length, drop_take_next, equal_true}
+use Rattle.log_model.proofs.Lists.{slice_get-append, within_length, drop_take_next, equal_true, true_equal}
 use Rattle.agreement.proofs.Agrees.{runs_agree}
 use Rattle.agreement.proofs.Answer.{lane_placed}
 use Rattle.agreement.proofs.TakenCount.{taken_within}
@@ -163,7 +163,8 @@ send_start : (calls : List Call) (m : Machine) → (after_sending calls m).start
 send_start [] m = refl
 send_start (c ∷ calls) m = refl
 
-next_aligned : (log : List Row) (s : Staged) (seat num : ℕ) (call : Call) → IsAligned log s None → next_of (machine s) ≡ Send num call → IsAligned log (with_act seat Next s) (Some (num, call))
+-- from then on it is in the lane
+pub next_aligned : (log : List Row) (s : Staged) (seat num : ℕ) (call : Call) → IsAligned log s None → next_of (machine s) ≡ Send num call → IsAligned log (with_act seat Next s) (Some (num, call))
 next_aligned log s seat num call h sends =
     let m : machine (with_act seat Next s) ≡ after_act Next (machine s) = machine-with_act seat Next s in
     let es : (machine (with_act seat Next s)).entries ≡ (machine s).entries = ap (λ (x : Machine). x.entries) m ∙ sent_entries (machine s).outgoing (machine s) in
@@ -200,3 +201,20 @@ serve_aligned log s acts_seat seat num call legal played h sends =
     subst (λ (o : ℕ). answer log o num call ≡ Placed (length log) o) (machine-own (with_act acts_seat Next s)) (lane_placed log (machine (with_act acts_seat Next s)) num call legal agrees) in
     let plain = lane_no_join 0 (taken_count (machine (with_act acts_seat Next s))) call (machine (with_act acts_seat Next s)).outgoing agrees.seen_rises in
     (placed, plain, rw (after_placed log seat s.own num (length log) call placed) (served_aligned log (with_act acts_seat Next s) seat num call plain next))
+
+-- the call in the lane is served
+pub lane_aligned : (log : List Row) (s : Staged) (seat num : ℕ) (call : Call) → IsLegal log → IsStagePlayed s → IsAligned log s (Some (num, call)) → IsAligned (log_after log seat s.own num call) s None
+lane_aligned log s seat num call legal played h =
+    let agrees = aligned_agrees log s (Some (num, call)) legal played h in
+    let placed : answer log s.own num call ≡ Placed (length log) s.own =
+    subst (λ (o : ℕ). answer log o num call ≡ Placed (length log) o) (machine-own s) (lane_placed log (machine s) num call legal agrees) in
+    let plain = lane_no_join 0 (taken_count (machine s)) call (machine s).outgoing agrees.seen_rises in
+    rw (after_placed log seat s.own num (length log) call placed) (served_aligned log s seat num call plain h)
+
+-- numbers that differ
+pub differ_false : (m n : ℕ) → (m ≡ n → ⊥) → (m == n) ≡ false
+differ_false m n f = by_test (m == n) refl
+  where
+    by_test : (b : Bool) → (m == n) ≡ b → b ≡ false
+    by_test true e = absurd (f (true_equal m n e))
+    by_test false e = refl

@@ -16,4 +16,5 @@ pub mod Answer
 pub mod Document
 pub mod CanAct
 pub mod IsAligned
+pub mod Waiting
 pub mod StagesAgree

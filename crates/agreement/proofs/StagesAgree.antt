@@ -25,10 +25,10 @@ use Rattle.stage_state.proofs.IsPlayed.{stage_placed}
 use Rattle.agreement.specs.Agreement.{Agrees, pairs_by, is_own_join}
 use Rattle.agreement.specs.Aligned.{IsAligned}
 use Rattle.agreement.specs.Stages.{StagesAgree, is_local}
-use Rattle.log_model.proofs.Lists.{at_end, slice_get-last, length-one_more, equal_true, true_equal, nothing_left}
+use Rattle.log_model.proofs.Lists.{at_end, slice_get-last, length-one_more, equal_true, nothing_left}
 use Rattle.agreement.proofs.CanAct.{takes_next}
 use Rattle.agreement.proofs.Dropped.{get_drop}
-use Rattle.agreement.proofs.IsAligned.{after_aligned, aligned_agrees, can_send, local_aligned, serve_aligned, take_aligned}
+use Rattle.agreement.proofs.IsAligned.{after_aligned, aligned_agrees, can_send, differ_false, local_aligned, serve_aligned, take_aligned}
 use Rattle.agreement.proofs.OwnAsks.{joined_row}
 
 -- what stands in a list with one element replaced
@@ -48,13 +48,6 @@ kept_apart stages i s new is own apart j k a b e f same =
     (λ l. ⊎_elim (λ m. l.0 ∙ sym m.0) (λ m. l.0 ∙ apart i k s b is m.1 (sym own ∙ ap (λ (x : Staged). x.own) (sym l.1) ∙ same)) (set_get stages i k new b f))
     (λ l. ⊎_elim (λ m. apart j i a s l.1 is (same ∙ ap (λ (x : Staged). x.own) m.1 ∙ own) ∙ sym m.0) (λ m. apart j k a b l.1 m.1 same) (set_get stages i k new b f))
     (set_get stages i j new a e)
-
-differ_false : (m n : ℕ) → (m ≡ n → ⊥) → (m == n) ≡ false
-differ_false m n f = by_test (m == n) refl
-  where
-    by_test : (b : Bool) → (m == n) ≡ b → b ≡ false
-    by_test true e = absurd (f (true_equal m n e))
-    by_test false e = refl
 
 -- one stage replaced by itself with one act more, on the same log or one that the others are aligned with
 replaced : (log later : List Row) (stages : List Staged) (i seat : ℕ) (s : Staged) (a : Act) → StagesAgree log stages → slice_get stages i ≡ Some s → CanAct (machine s) a

@@ -6,5 +6,5 @@
 mod laws;
 
 pub use laws::{
-    aligned_law, drained_law, lane_law, outstanding_law, run_law, stages_law, take_law,
+    aligned_law, drained_law, lane_law, outstanding_law, run_law, stages_law, take_law, waiting_law,
 };

@@ -66,7 +66,9 @@ impl<T> GapBuffer<T> {
     /// All its slots, those of the gap among them, for the bound that a slice's length has; what stands in the gap's is of no
     /// matter.
     pub fn slots(&self) -> &[T]
-        ensures { length result.now ≡ length (whole_list self.now) + self.now.spare }
+        ensures length { length result.now ≡ length (whole_list self.now) + self.now.spare }
+        ensures front { take (length self.now.front) result.now ≡ self.now.front }
+        ensures behind { drop (length self.now.front + self.now.spare) result.now ≡ self.now.behind }
     {
         &self.items
     }
