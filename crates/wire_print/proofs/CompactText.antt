@@ -1,15 +1,14 @@
--- The text of sound data is UTF-8, and is one line.
-use Rattle.std.proofs.Common.{◌≡◌, ℕ, ◌<◌, ◌^◌, pos, negsuc, List, [], ◌∷◌, ◌++◌, Bool, true, false, IsUtf8, refl, arith, zero, suc, ◌&&◌, decimal, inl, inr, ap, ◌∙◌, subst}
-use Rattle.std.proofs.lemmas.Fmt.{IsAscii-decimal, IsAscii-signed, decimal_is_IsNumeral}
+-- The text of sound data is UTF-8, and the text of any data is one line.
+use Rattle.std.proofs.Common.{◌≡◌, ℕ, ◌+◌, ◌<◌, pos, negsuc, List, [], ◌∷◌, ◌++◌, Bool, true, false, IsUtf8, refl, arith, zero, suc, ◌&&◌, decimal, inl, inr, ap, ◌∙◌}
+use Rattle.std.proofs.lemmas.Fmt.{IsAscii-decimal, IsAscii-signed}
 use Rattle.std.proofs.lemmas.Str.{IsUtf8-append, IsUtf8-from_ascii}
 use Rattle.json.proofs.Printed.Utf8.{IsUtf8-are_ascii, IsUtf8-quoted, IsUtf8-boolean}
 use Rattle.serde_json.specs.Data.{Data, null, boolean, number, unsigned, negative, float, string, array, object, Items, no_items, item, Members, no_members, member}
 use Rattle.serde_json.specs.Written.{comma_if, compact_text, items_text, members_text}
 use Rattle.wire_print.proofs.IsSound.{IsSound, ItemsAreSound, MembersAreSound}
-use Rattle.std.specs.Prelude.{◌==◌, not}
-use Rattle.std.specs.Str.Parse.{AllDigits}
-use Rattle.std.specs.Char.{digit_value}
-use Rattle.std.proofs.lemmas.Bool.{and_parts, cases_lt, cases_eq, ne_eqb}
+use Rattle.std.specs.Prelude.{◌==◌, not, ◌/◌, ◌%◌, if◌then◌else◌}
+use Rattle.std.specs.Fmt.{digit_glyph, digits_onto, digits}
+use Rattle.std.proofs.lemmas.Bool.{and_parts, cases_lt, cases_eq, ne_eqb, lt-ltb}
 use Rattle.std.proofs.lemmas.List.Folds.{list_any-append}
 use Rattle.json.specs.Print.{escape_byte, escape, quoted}
 use Rattle.json.proofs.Printed.Strings.{escape_byte_plain}
@@ -80,36 +79,46 @@ escape_none (x ∷ s) = none_append (escape_byte x) (escape s) (escape_one x) (e
 quoted_none : (s : List ℕ) → has_line_feed (quoted s) ≡ false
 quoted_none s = none_append (escape s) (34 ∷ []) (escape_none s) refl
 
-digits_none : (ds : List ℕ) → AllDigits 10 ds → has_line_feed ds ≡ false
-digits_none [] h = refl
-digits_none (d ∷ ds) h = rw (ne_eqb d 10 (λ e. let small : digit_value 10 < 10 = subst (λ x. digit_value x < 10) e h.0 in omega (arith, small))) (digits_none ds h.1)
+glyph_none : (d : ℕ) (ds : List ℕ) → d < 10 → has_line_feed ds ≡ false → has_line_feed (digit_glyph false d ∷ ds) ≡ false
+glyph_none d ds small none = rw (lt-ltb d 10 small, ne_eqb (48 + d) 10 (λ e. omega (arith, e))) none
 
-decimal_none : (n : ℕ) → n < 2 ^ 64 → has_line_feed (decimal n) ≡ false
-decimal_none n h = digits_none (decimal n) (decimal_is_IsNumeral n h).0.1
+digits_none : (k n : ℕ) (ds : List ℕ) → has_line_feed ds ≡ false → has_line_feed (digits_onto k 10 false n ds) ≡ false
+digits_none zero n ds none = none
+digits_none (suc k) n ds none =
+    let more = glyph_none (n % 10) ds (omega arith) none in
+    either (n / 10 == 0) _ _ more (digits_none k (n / 10) _ more)
+  where
+    either : (b : Bool) (xs ys : List ℕ) → has_line_feed xs ≡ false → has_line_feed ys ≡ false → has_line_feed (if b then xs else ys) ≡ false
+    either true xs ys p q = p
+    either false xs ys p q = q
+
+decimal_none : (n : ℕ) → has_line_feed (decimal n) ≡ false
+unfolding digits
+decimal_none n = digits_none 64 n [] refl
 
 comma_none : (later : Bool) → has_line_feed (comma_if later) ≡ false
 comma_none true = refl
 comma_none false = refl
 
 mutual
-  -- the text of sound data has no line feed
-  pub compact_none : (d : Data) → IsSound d → has_line_feed (compact_text d) ≡ false
-  compact_none null h = refl
-  compact_none (boolean true) h = refl
-  compact_none (boolean false) h = refl
-  compact_none (number (unsigned n)) h = decimal_none n h
-  compact_none (number (negative (pos n))) h = absurd h
-  compact_none (number (negative (negsuc n))) h = decimal_none (suc n) (omega (arith, h))
-  compact_none (number (float x)) h = absurd h
-  compact_none (string s) h = quoted_none s
-  compact_none (array ds) h = items_none false ds h
-  compact_none (object ms) h = members_none false ms h.1
+  -- no text of data has a line feed
+  pub compact_none : (d : Data) → has_line_feed (compact_text d) ≡ false
+  compact_none null = refl
+  compact_none (boolean true) = refl
+  compact_none (boolean false) = refl
+  compact_none (number (unsigned n)) = decimal_none n
+  compact_none (number (negative (pos n))) = decimal_none n
+  compact_none (number (negative (negsuc n))) = decimal_none (suc n)
+  compact_none (number (float x)) = refl
+  compact_none (string s) = quoted_none s
+  compact_none (array ds) = items_none false ds
+  compact_none (object ms) = members_none false ms
 
-  items_none : (later : Bool) (ds : Items) → ItemsAreSound ds → has_line_feed (items_text later ds) ≡ false
-  items_none later no_items h = refl
-  items_none later (item d ds) h = none_append (comma_if later) _ (comma_none later) (none_append (compact_text d) _ (compact_none d h.0) (items_none true ds h.1))
+  items_none : (later : Bool) (ds : Items) → has_line_feed (items_text later ds) ≡ false
+  items_none later no_items = refl
+  items_none later (item d ds) = none_append (comma_if later) _ (comma_none later) (none_append (compact_text d) _ (compact_none d) (items_none true ds))
 
-  members_none : (later : Bool) (ms : Members) → MembersAreSound ms → has_line_feed (members_text later ms) ≡ false
-  members_none later no_members h = refl
-  members_none later (member k d ms) h =
-      none_append (comma_if later) _ (comma_none later) (none_append (quoted k) _ (quoted_none k) (none_append (compact_text d) _ (compact_none d h.1) (members_none true ms h.2)))
+  members_none : (later : Bool) (ms : Members) → has_line_feed (members_text later ms) ≡ false
+  members_none later no_members = refl
+  members_none later (member k d ms) =
+      none_append (comma_if later) _ (comma_none later) (none_append (quoted k) _ (quoted_none k) (none_append (compact_text d) _ (compact_none d) (members_none true ms)))

@@ -1,5 +1,5 @@
 -- A printed entry is read back.
-use Rattle.std.proofs.Common.{◌≡◌, ℕ, ◌≤◌, false, refl, ap, ◌∙◌, arith}
+use Rattle.std.proofs.Common.{◌≡◌, ℕ, ◌≤◌, refl, ap, ◌∙◌, arith}
 use Rattle.std.specs.Prelude.{Some, option_and_then}
 use Rattle.std.proofs.lemmas.Str.{chars-encodes}
 use Rattle.json.proofs.Printed.Utf8.{IsUtf8-are_ascii}
@@ -9,11 +9,11 @@ use Rattle.troop_entry.specs.declared.entry.Deed.{Deed}
 use Rattle.troop_entry.specs.declared.entry.Deed.TheVariants as deed
 use Rattle.troop_entry.specs.declared.entry.Entry.{Entry}
 use Rattle.wire_json.specs.Entries.{entry_of_data, entry_of_line}
-use Rattle.wire_print.specs.Printed.{printed_text, has_line_feed, deed_data, entry_data}
+use Rattle.wire_print.specs.Printed.{printed_text, deed_data, entry_data}
 use Rattle.wire_print.specs.Within.{IsCount, IsWho, DeedIsSpelled, DeedIsWithin, EntryIsWithin}
 use Rattle.wire_print.proofs.IsSound.{IsSound}
 use Rattle.wire_print.proofs.OpOf.{op_back, op_sound, op_flat, text_sound}
-use Rattle.wire_print.proofs.PrintedText.{value_of_printed, one_line, count_back, performer_back, name_back, lang_back, lang_sound}
+use Rattle.wire_print.proofs.PrintedText.{value_of_printed, count_back, performer_back, name_back, lang_back, lang_sound}
 
 deed_back : (what : Deed) (at seen who : ℕ) → IsCount at → IsCount seen → 1 ≤ who → IsWho who → DeedIsSpelled what → DeedIsWithin what
     → entry_of_data (deed_data what at seen who) ≡ Some (record { at = at; who = who; seen = seen; deed = what })
@@ -50,7 +50,3 @@ pub entry_back : (e : Entry) → IsWho e.who → DeedIsSpelled e.deed → EntryI
 entry_back e who spelled fits =
     ap (λ o. option_and_then entry_of_data o) (value_of_printed (entry_data e) (entry_sound e who spelled fits) (deed_shallow e.deed e.at e.seen e.who))
     ∙ deed_back e.deed e.at e.seen e.who fits.at fits.seen fits.one who spelled fits.deed
-
--- a printed entry is one line
-pub entry_line : (e : Entry) → IsWho e.who → DeedIsSpelled e.deed → EntryIsWithin e → has_line_feed (printed_text (entry_data e)) ≡ false
-entry_line e who spelled fits = one_line (entry_data e) (entry_sound e who spelled fits)

@@ -9,3 +9,4 @@ pub mod ReplyOfLine
 pub mod EntryOfLine
 pub mod SnapshotOfLine
 pub mod HasFloat
+pub mod ReadWithin

@@ -20,10 +20,10 @@ pub value_of_printed : (d : Data) → IsSound d → depth d ≤ max_depth → va
 unfolding printed_text
 value_of_printed d sound shallow = value_of_text _ (IsUtf8-compact d sound) ∙ read-compact d sound shallow
 
--- what is printed of sound data is one line
-pub one_line : (d : Data) → IsSound d → has_line_feed (printed_text d) ≡ false
+-- what is printed of any data is one line
+pub one_line : (d : Data) → has_line_feed (printed_text d) ≡ false
 unfolding printed_text
-one_line d sound = compact_none d sound
+one_line d = compact_none d
 
 -- a count is read back
 pub count_back : (n : ℕ) → IsCount n → count_of (count_data n) ≡ Some n

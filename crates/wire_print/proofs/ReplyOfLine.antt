@@ -1,5 +1,5 @@
 -- A printed reply is read back.
-use Rattle.std.proofs.Common.{◌≡◌, ◌≤◌, false, refl, ap, ◌∙◌, arith}
+use Rattle.std.proofs.Common.{◌≡◌, ◌≤◌, refl, ap, ◌∙◌, arith}
 use Rattle.std.specs.Prelude.{Some, option_and_then}
 use Rattle.json.proofs.Printed.Utf8.{IsUtf8-are_ascii}
 use Rattle.serde_json.specs.Data.{depth}
@@ -8,10 +8,10 @@ use Rattle.troop_entry.specs.declared.reply.Reply.TheVariants as desk
 use Rattle.wire_json.specs.declared.replies.WireReply.{WireReply}
 use Rattle.wire_json.specs.declared.replies.WireReply.TheVariants as reply
 use Rattle.wire_json.specs.Replies.{reply_of_data, reply_of_line}
-use Rattle.wire_print.specs.Printed.{printed_text, has_line_feed, reply_data}
+use Rattle.wire_print.specs.Printed.{printed_text, reply_data}
 use Rattle.wire_print.specs.Within.{ReplyIsSpelled, ReplyIsWithin}
 use Rattle.wire_print.proofs.IsSound.{IsSound}
-use Rattle.wire_print.proofs.PrintedText.{value_of_printed, one_line, count_back, who_back, performer_back}
+use Rattle.wire_print.proofs.PrintedText.{value_of_printed, count_back, who_back, performer_back}
 
 reply_data_back : (r : WireReply) → ReplyIsSpelled r → ReplyIsWithin r → reply_of_data (reply_data r) ≡ Some r
 reply_data_back (reply.Desk (desk.Placed at who)) s h = rw (count_back at h.0, performer_back who h.1 s)
@@ -52,7 +52,3 @@ reply_shallow (reply.Unfit line) = omega arith
 -- a printed reply is read back
 pub reply_back : (r : WireReply) → ReplyIsSpelled r → ReplyIsWithin r → reply_of_line (printed_text (reply_data r)) ≡ Some r
 reply_back r s h = ap (λ o. option_and_then reply_of_data o) (value_of_printed (reply_data r) (reply_sound r s h) (reply_shallow r)) ∙ reply_data_back r s h
-
--- a printed reply is one line
-pub reply_line : (r : WireReply) → ReplyIsSpelled r → ReplyIsWithin r → has_line_feed (printed_text (reply_data r)) ≡ false
-reply_line r s h = one_line (reply_data r) (reply_sound r s h)

@@ -1,5 +1,5 @@
 -- A printed request is read back.
-use Rattle.std.proofs.Common.{◌≡◌, zero, suc, ◌≤◌, false, refl, ap, ◌∙◌, le-leb, arith}
+use Rattle.std.proofs.Common.{◌≡◌, zero, suc, ◌≤◌, refl, ap, ◌∙◌, le-leb, arith}
 use Rattle.std.specs.Prelude.{Some, option_and_then, codes}
 use Rattle.std.proofs.lemmas.Str.{chars-encodes}
 use Rattle.json.proofs.Printed.Utf8.{IsUtf8-are_ascii}
@@ -9,12 +9,12 @@ use Rattle.troop_entry.specs.declared.call.Call.TheVariants as call
 use Rattle.troop_entry.specs.declared.call.Request.{Request}
 use Rattle.troop_entry.specs.declared.call.Request.TheVariants as request
 use Rattle.wire_json.specs.Requests.{request_of_data, request_of_line}
-use Rattle.wire_print.specs.Printed.{printed_text, has_line_feed, count_data, text_data, op_data, request_data}
+use Rattle.wire_print.specs.Printed.{printed_text, count_data, text_data, op_data, request_data}
 use Rattle.wire_print.specs.Within.{RequestIsSpelled, RequestIsWithin}
 use Rattle.wire_print.proofs.IsSound.{IsSound}
 use Rattle.wire_print.proofs.WithNum.{numbered_sound, numbered_shallow}
 use Rattle.wire_print.proofs.OpOf.{op_back, op_sound, op_flat, text_sound}
-use Rattle.wire_print.proofs.PrintedText.{value_of_printed, one_line, count_back, who_back, name_back, lang_back, lang_sound}
+use Rattle.wire_print.proofs.PrintedText.{value_of_printed, count_back, who_back, name_back, lang_back, lang_sound}
 
 request_data_back : (r : Request) → RequestIsSpelled r → RequestIsWithin r → request_of_data (request_data r) ≡ Some r
 request_data_back (request.Call num (call.Join name language)) s h = rw (name_back name s h.1, lang_back language, h.0)
@@ -64,7 +64,3 @@ request_shallow (request.Snap who) = omega arith
 -- a printed request is read back
 pub request_back : (r : Request) → RequestIsSpelled r → RequestIsWithin r → request_of_line (printed_text (request_data r)) ≡ Some r
 request_back r s h = ap (λ o. option_and_then request_of_data o) (value_of_printed (request_data r) (request_sound r s h) (request_shallow r)) ∙ request_data_back r s h
-
--- a printed request is one line
-pub request_line : (r : Request) → RequestIsSpelled r → RequestIsWithin r → has_line_feed (printed_text (request_data r)) ≡ false
-request_line r s h = one_line (request_data r) (request_sound r s h)

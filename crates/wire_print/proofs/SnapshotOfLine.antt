@@ -1,5 +1,5 @@
 -- A printed snapshot is read back.
-use Rattle.std.proofs.Common.{◌≡◌, ℕ, zero, suc, ◌≤◌, List, [], ◌∷◌, length, map, replicate, false, refl, sym, ap, ◌∙◌, le-leb, arith}
+use Rattle.std.proofs.Common.{◌≡◌, ℕ, zero, suc, ◌≤◌, List, [], ◌∷◌, length, map, replicate, refl, sym, ap, ◌∙◌, le-leb, arith}
 use Rattle.std.specs.Prelude.{All, Some, option_and_then, option_map, zip, sum_by}
 use Rattle.std.proofs.lemmas.Bool.{eq-eqb}
 use Rattle.std.proofs.lemmas.List.{length-append, length-replicate, length-map}
@@ -14,11 +14,11 @@ use Rattle.ot_text.specs.Marked.{Marked, text_of, marks_of, runs_of}
 use Rattle.author_marks.specs.Runs.{run_of, marks_of_runs}
 use Rattle.author_marks.proofs.RunsOf.{runs_of-are}
 use Rattle.wire_json.specs.Snapshots.{runs_of_list, marked_of, marked_field, snapshot_of_data, snapshot_of_line}
-use Rattle.wire_print.specs.Printed.{printed_text, has_line_feed, run_data, snapshot_data}
+use Rattle.wire_print.specs.Printed.{printed_text, run_data, snapshot_data}
 use Rattle.wire_print.specs.Within.{IsCount, IsWho, IsSpelled, DocIsSpelled, SnapshotIsWithin}
 use Rattle.wire_print.proofs.IsSound.{IsSound, ItemsAreSound}
 use Rattle.wire_print.proofs.OpOf.{elements-items_of, text_sound}
-use Rattle.wire_print.proofs.PrintedText.{value_of_printed, one_line, count_back, performer_back}
+use Rattle.wire_print.proofs.PrintedText.{value_of_printed, count_back, performer_back}
 
 abbrev Runs : Type 0
 Runs = List (ℕ × ℕ)
@@ -93,10 +93,6 @@ snapshot_shallow at m = omega (arith, runs_shallow (runs_of (marks_of m)))
 pub snapshot_back : (at : ℕ) (m : Marked) → DocIsSpelled m → SnapshotIsWithin at m → snapshot_of_line (printed_text (snapshot_data at m)) ≡ Some (at, m)
 snapshot_back at m spelled fits =
     ap (λ o. option_and_then snapshot_of_data o) (value_of_printed (snapshot_data at m) (snapshot_sound at m spelled fits) (snapshot_shallow at m)) ∙ snapshot_data_back at m spelled fits
-
--- a printed snapshot is one line
-pub snapshot_line : (at : ℕ) (m : Marked) → DocIsSpelled m → SnapshotIsWithin at m → has_line_feed (printed_text (snapshot_data at m)) ≡ false
-snapshot_line at m spelled fits = one_line (snapshot_data at m) (snapshot_sound at m spelled fits)
 
 unmapped : (runs : Runs) → All (λ run. IsWho run.who) (map run_of runs) → HaveNumbers runs
 unmapped [] h k d l = absurd (omega (arith, l))

@@ -1,5 +1,6 @@
 //! Laws of the printed lines, each the contract of a function that does nothing.
-ghost use Rattle.std.specs.Prelude.{◌≡◌, ℕ, Some, false};
+ghost use Rattle.std.specs.Prelude.{◌≡◌, ℕ, List, Some, false};
+ghost use Rattle.serde_json.specs.Data.{Data};
 ghost use Rattle.ot_text.specs.Marked.{Marked};
 ghost use Rattle.troop_entry.specs.declared.call.Request.{Request};
 ghost use Rattle.troop_entry.specs.declared.entry.Entry.{Entry};
@@ -23,12 +24,12 @@ pub fn read_back_law()
         → snapshot_of_line (printed_text (snapshot_data at m)) ≡ Some (at, m) }
 {}
 
-/// What is printed within the limits is one line: no line feed stands in front of the one at its end.
+/// What is printed of any data is one line: no line feed stands in front of the one at its end. Each printer's line is one of these.
 pub fn one_line_law()
-    ensures request { (r : Request) → RequestIsSpelled r → RequestIsWithin r → has_line_feed (printed_text (request_data r)) ≡ false }
-    ensures reply { (r : WireReply) → ReplyIsSpelled r → ReplyIsWithin r → has_line_feed (printed_text (reply_data r)) ≡ false }
-    ensures entry { (e : Entry) → IsWho e.who → DeedIsSpelled e.deed → EntryIsWithin e
-        → has_line_feed (printed_text (entry_data e)) ≡ false }
-    ensures snapshot { (at : ℕ) (m : Marked) → DocIsSpelled m → SnapshotIsWithin at m
-        → has_line_feed (printed_text (snapshot_data at m)) ≡ false }
+    ensures { (d : Data) → has_line_feed (printed_text d) ≡ false }
+{}
+
+/// A reply that was read is within the limits: so it can be printed, and is read back as the same reply.
+pub fn read_within_law()
+    ensures { (line : List ℕ) (r : WireReply) → reply_of_line line ≡ Some r → ReplyIsSpelled r × ReplyIsWithin r }
 {}

@@ -17,7 +17,7 @@ mod texts;
 pub use documents::{print_desk, print_snapshot, print_stage};
 pub use entries::print_entry;
 pub use journal::{print_journal, print_lives};
-pub use laws::{one_line_law, read_back_law};
+pub use laws::{one_line_law, read_back_law, read_within_law};
 pub use replies::{print_blank, print_reply};
 pub use requests::print_request;
 pub use summaries::{DrillSummary, JamSummary, print_drill, print_jam};
