@@ -19,9 +19,9 @@ use Rattle.session.specs.declared.session_end.SessionEnd.TheVariants as ends
 use Rattle.session.specs.Printed.{reply_line}
 use Rattle.session.specs.Ends.{WroteFront, WroteLess, IsBroken, IsWhole, Wrote, wires}
 use Rattle.session.specs.Replies.{AnsweredLine, call_on_line, printed, lines_of_turns, asks_leave, is_standing_reply, parts}
-use Rattle.session.specs.UpLines.{Stop, Parting, Ending, Overlong, Breaking, end_by, last_by, EndsTalk, StopsAt, ReadsLines, CameWhole, StopsByFault, PartsBy, Talk}
+use Rattle.session.specs.UpLines.{Stop, Parting, Ending, Overlong, Breaking, end_by, last_by, EndsTalk, StopsAt, ReadsLines, CameWhole, long_replies, replies_owed, WroteIntoLast, StopsByFault, PartsBy, Talk}
 use Rattle.session.specs.Parts.{Sends, AnswersLine, TakesLine, HasSaid, HasCut, InTalk, HasTalked}
-use Rattle.session.proofs.WroteFront.{wrote_on, front_on, front_whole, front_more, less_on, less_more, at_end-nil, wrote_behind}
+use Rattle.session.proofs.WroteFront.{wrote_on, front_on, front_whole, front_more, less_on, less_more, at_end-nil, wrote_behind, into_last, into_opened, reply_lines, all_into, next_into, turn_into}
 use Rattle.session.proofs.ReadsOn.{in_front-twice}
 use Rattle.session.proofs.AreReplies.{printed_more}
 use Rattle.session.proofs.HasSaid.{later_same, said_more, said_later}
@@ -68,13 +68,18 @@ long_is_no_fault n e = cc
 whole_is_no_fault : (end : SessionEnd) → IsWhole end → end ≡ ends.LinkFault → ⊥
 whole_is_no_fault end h e = subst IsWhole e h
 
+-- what was written by a session's end is a front
+front_wrote_of : (so end : SessionEnd) (old new : Option (List ℕ)) (owed : List ℕ) → Wrote so end owed old new → WroteFront owed old new
+front_wrote_of so end old new owed (inl (is, wrote)) = front_whole old new owed wrote
+front_wrote_of so end old new owed (inr (broken, front)) = front
+
 -- ---- the ends
 
 module _ (limit who : ℕ) (over : SessionEnd) (s : DeskSeatValue) (before old : Option (List ℕ)) where
   talked : (t : DeskSeatValue) (left after rest new : Option (List ℕ)) (ts : List AnsweredLine) (stop : Stop) (end : SessionEnd) → HasSaid limit who s t before left ts → ((rest : List ℕ) → left ≡ Some rest → StopsAt stop end limit rest after)
-      → Wrote (end_by over stop (2 + length ts)) end (printed ts ++ last_by stop (2 + length ts)) old new → StopsByFault (lines_of_turns ts) (printed ts ++ last_by stop (2 + length ts)) end (wires before after rest old new) → PartsBy stop ts
+      → Wrote (end_by over stop (2 + length ts)) end (printed ts ++ last_by stop (2 + length ts)) old new → WroteIntoLast (replies_owed [] ts stop (2 + length ts)) old new → StopsByFault (lines_of_turns ts) (printed ts ++ last_by stop (2 + length ts)) end (wires before after rest old new) → PartsBy stop ts
       → HasTalked limit who over s t [] end (wires before after rest old new)
-  talked t left after rest new ts stop end said stops wrote fault parting = record {
+  talked t left after rest new ts stop end said stops wrote in_turn fault parting = record {
     turns = ts;
     later = said.later;
     own = said.own;
@@ -84,6 +89,7 @@ module _ (limit who : ℕ) (over : SessionEnd) (s : DeskSeatValue) (before old :
       short = said.short;
       reads = reads_by stop end limit (lines_of_turns ts) before left after said.read stops;
       wrote = wrote;
+      in_turn = in_turn;
       fault = fault;
       parting = parting;
     };
@@ -99,7 +105,7 @@ module _ (limit who : ℕ) (over : SessionEnd) (s : DeskSeatValue) (before old :
     -- no byte is left
     pub ended : (after rest : Option (List ℕ)) → IsWhole over → IfSome left (λ bytes. (bytes ≡ []) × (after ≡ Some [])) → HasTalked limit who over s t [] over (wires before after rest old new)
     ended after rest w e =
-        talked t left after rest new talk.turns Ending over talk.said (λ rest is. subst (λ o. IfSome o (λ bytes. (bytes ≡ []) × (after ≡ Some []))) is e) (all_written over talk.turns new talk.wrote) (λ is. absurd (whole_is_no_fault over w is)) talk.goes_on
+        talked t left after rest new talk.turns Ending over talk.said (λ rest is. subst (λ o. IfSome o (λ bytes. (bytes ≡ []) × (after ≡ Some []))) is e) (all_written over talk.turns new talk.wrote) (all_into old new talk.turns talk.wrote) (λ is. absurd (whole_is_no_fault over w is)) talk.goes_on
 
     -- the next line is over the limit
     pub overlong : (end : SessionEnd) (after rest new' : Option (List ℕ)) → IfSome left (EndsTalk limit) → Wrote (ends.Long number) end (reply_line (wire.Long number)) new new' → (end ≡ ends.LinkFault → WroteLess (reply_line (wire.Long number)) new new')
@@ -107,6 +113,7 @@ module _ (limit who : ℕ) (over : SessionEnd) (s : DeskSeatValue) (before old :
     overlong end after rest new' e wrote less =
         talked t left after rest new' talk.turns Overlong end talk.said (λ rest is. subst (λ o. IfSome o (EndsTalk limit)) is e)
         (subst (λ n. Wrote (ends.Long n) end (printed talk.turns ++ reply_line (wire.Long n)) old new') talk.count (wrote_behind (ends.Long number) end (printed talk.turns) (reply_line (wire.Long number)) old new new' talk.wrote wrote))
+        (subst (λ n. WroteIntoLast (replies_owed [] talk.turns Overlong n) old new') talk.count (next_into old new new' talk.turns (reply_line (wire.Long number)) talk.wrote (front_wrote_of (ends.Long number) end new new' (reply_line (wire.Long number)) wrote)))
         (λ is. inl (subst (λ n. WroteLess (printed talk.turns ++ reply_line (wire.Long n)) old new') talk.count (less_on old new new' (printed talk.turns) (reply_line (wire.Long number)) talk.wrote (less is)))) talk.goes_on
 
     -- the read failed, or found no memory
@@ -114,12 +121,12 @@ module _ (limit who : ℕ) (over : SessionEnd) (s : DeskSeatValue) (before old :
         → HasTalked limit who over s t [] end (wires before after rest old new)
     broken end b after rest same fault =
         talked t left after rest new talk.turns Breaking end talk.said (λ rest is. inl (subst (λ o. IfSome o (λ bytes. after ≡ Some bytes)) is same))
-        (cut_off ends.Memory end talk.turns new b (front_whole old new (printed talk.turns) talk.wrote)) (λ is. inr (fault is)) talk.goes_on
+        (cut_off ends.Memory end talk.turns new b (front_whole old new (printed talk.turns) talk.wrote)) (all_into old new talk.turns talk.wrote) (λ is. inr (fault is)) talk.goes_on
 
     -- so many lines were answered that the next has no number
     pub run_out : (rest : Option (List ℕ)) → HasTalked limit who over s t [] ends.Memory (wires before left rest old new)
     run_out rest =
-        talked t left left rest new talk.turns Breaking ends.Memory talk.said (λ rest is. inl is) (cut_off ends.Memory ends.Memory talk.turns new tt (front_whole old new (printed talk.turns) talk.wrote)) (λ is. absurd (memory_is_no_fault is)) talk.goes_on
+        talked t left left rest new talk.turns Breaking ends.Memory talk.said (λ rest is. inl is) (cut_off ends.Memory ends.Memory talk.turns new tt (front_whole old new (printed talk.turns) talk.wrote)) (all_into old new talk.turns talk.wrote) (λ is. absurd (memory_is_no_fault is)) talk.goes_on
 
     module _ (u : DeskSeatValue) (left' new' : Option (List ℕ)) (line : List ℕ) (later : IsLater t u) (short : length line ≤ limit) (next : IfSome left (λ bytes. (rest : List ℕ) × (left' ≡ Some rest) × (lines bytes ≡ line ∷ lines rest))) where
       -- a line was read, and then memory was wanting
@@ -127,7 +134,7 @@ module _ (limit who : ℕ) (over : SessionEnd) (s : DeskSeatValue) (before old :
       starved after own same =
           talked u left left' after new' talk.turns Breaking ends.Memory (said_later limit who s t u before left talk.turns talk.said later own)
           (λ rest is. inr (refl, (let n = subst (λ o. IfSome o (λ bytes. (rest : List ℕ) × (left' ≡ Some rest) × (lines bytes ≡ line ∷ lines rest))) is next in (line, n.0, n.2, n.1))))
-          (cut_off ends.Memory ends.Memory talk.turns new' tt (front_whole old new' (printed talk.turns) (same ∙ talk.wrote))) (λ is. absurd (memory_is_no_fault is)) talk.goes_on
+          (cut_off ends.Memory ends.Memory talk.turns new' tt (front_whole old new' (printed talk.turns) (same ∙ talk.wrote))) (all_into old new' talk.turns (same ∙ talk.wrote)) (λ is. absurd (memory_is_no_fault is)) talk.goes_on
 
       module _ (r : WireReply) (answers : AnswersLine who number (call_on_line line) t r u) where
         more : (log : List Row) × HasSaid limit who s u before left' (talk.turns ++ record { line = line; log = log; reply = r } ∷ [])
@@ -155,7 +162,7 @@ module _ (limit who : ℕ) (over : SessionEnd) (s : DeskSeatValue) (before old :
         pub cut : (after : Option (List ℕ)) (end : SessionEnd) → IsBroken end → WroteFront (reply_line r) new new' → (end ≡ ends.LinkFault → WroteLess (reply_line r) new new') → HasTalked limit who over s u [] end (wires before left' after old new')
         cut after end b f less =
             either (HasTalked limit who over s u [] end (wires before left' after old new')) (asks_leave (call_on_line line) && is_standing_reply r)
-            (λ e. talked u left' left' after new' turns Parting end more.1 (λ rest is. is) (cut_off ends.Left end turns new' b (front_wrote f)) (λ is. inl (less_wrote (less is)))
+            (λ e. talked u left' left' after new' turns Parting end more.1 (λ rest is. is) (cut_off ends.Left end turns new' b (front_wrote f)) (turn_into old new new' talk.turns turn talk.wrote f) (λ is. inl (less_wrote (less is)))
             (record {
               earlier = talk.turns;
               last = turn;
@@ -163,7 +170,7 @@ module _ (limit who : ℕ) (over : SessionEnd) (s : DeskSeatValue) (before old :
               goes_on = talk.goes_on;
               leaves = e;
             }))
-            (λ e. talked u left' left' after new' turns Breaking end more.1 (λ rest is. inl is) (cut_off ends.Memory end turns new' b (front_wrote f)) (λ is. inl (less_wrote (less is))) (none_parts e))
+            (λ e. talked u left' left' after new' turns Breaking end more.1 (λ rest is. inl is) (cut_off ends.Memory end turns new' b (front_wrote f)) (turn_into old new new' talk.turns turn talk.wrote f) (λ is. inl (less_wrote (less is))) (none_parts e))
 
         -- and it goes on
         pub goes_on : (st' : State) → (st' ≡ state.Going → (st ≡ state.Going) × HasNoFeed line × (left ≡ in_front (line ++ line_feed ∷ []) left')) → new' ≡ at_end new (reply_line r) → (asks_leave (call_on_line line) && is_standing_reply r) ≡ false
@@ -182,7 +189,7 @@ module _ (limit who : ℕ) (over : SessionEnd) (s : DeskSeatValue) (before old :
         -- a leave stands in the log
         pub parted : (after : Option (List ℕ)) → new' ≡ at_end new (reply_line r) → (asks_leave (call_on_line line) && is_standing_reply r) ≡ true → HasTalked limit who over s u [] ends.Left (wires before left' after old new')
         parted after e leaves =
-            talked u left' left' after new' turns Parting ends.Left more.1 (λ rest is. is) (all_written ends.Left turns new' (all_wrote e)) (λ is. absurd (left_is_no_fault is))
+            talked u left' left' after new' turns Parting ends.Left more.1 (λ rest is. is) (all_written ends.Left turns new' (all_wrote e)) (all_into old new' turns (all_wrote e)) (λ is. absurd (left_is_no_fault is))
             (record {
               earlier = talk.turns;
               last = turn;
@@ -292,6 +299,7 @@ attended limit who over s t first end start before after rest old mid new same s
         short = talk.short;
         reads = talk.reads;
         wrote = wrote_behind (end_by over talk.stop (2 + length h.turns)) end first (printed h.turns ++ last_by talk.stop (2 + length h.turns)) old mid new sent talk.wrote;
+        in_turn = into_opened old mid new first (reply_lines h.turns ++ long_replies talk.stop (2 + length h.turns)) sent talk.in_turn;
         fault = λ is. ⊎_elim (λ l. inl (less_on old mid new first (printed h.turns ++ last_by talk.stop (2 + length h.turns)) sent l)) (λ w. inr w) (talk.fault is);
         parting = talk.parting;
       };
@@ -309,6 +317,7 @@ cut_short limit who over s first end left after rest old new sends same = record
     short = tt;
     reads = unread left same;
     wrote = inr (sends.0, front_more old new first [] sends.1);
+    in_turn = into_last old old new [] first (at_end-nil old) sends.1;
     fault = λ is. inl (less_more old new first [] (sends.2 is));
     parting = refl;
   };

@@ -1,6 +1,6 @@
 -- Up lines: sessions that place a performer's calls.
-use Rattle.std.specs.Prelude.{◌≡◌, ◌⊎◌, ℕ, ◌+◌, ◌<◌, ◌≤◌, List, [], ◌∷◌, ◌++◌, length, true, false, Option, Some, IfSome, slice_get}
-use Rattle.std.specs.List.{list_any}
+use Rattle.std.specs.Prelude.{◌≡◌, ◌⊎◌, ℕ, ◌+◌, ◌<◌, ◌≤◌, List, [], ◌∷◌, ◌++◌, length, map, true, false, Option, Some, IfSome, slice_get}
+use Rattle.std.specs.List.{concat, list_any}
 use Rattle.seat_lock.specs.Lists.{Begins, AllOf}
 use Rattle.troop_entry.specs.declared.call.Call.{Call}
 use Rattle.troop_entry.specs.declared.call.Call.TheVariants as call
@@ -9,7 +9,7 @@ use Rattle.troop_entry.specs.declared.row.Row.{Row}
 use Rattle.log_model.specs.Log.{has_join, has_leave, is_join_by}
 use Rattle.log_model.specs.Answers.{answer}
 use Rattle.troop_hall.specs.Seats.{DeskSeatValue, rows_gained}
-use Rattle.troop_ports.specs.Bytes.{in_front}
+use Rattle.troop_ports.specs.Bytes.{in_front, at_end}
 use Rattle.wire_lines.specs.Lines.{lines, whole_lines}
 use Rattle.wire_json.specs.declared.replies.WireReply.TheVariants as wire
 use Rattle.session.specs.declared.session_end.SessionEnd.{SessionEnd}
@@ -45,6 +45,17 @@ last_by Ending number = []
 last_by Overlong number = reply_line (wire.Long number)
 last_by Breaking number = []
 
+-- the reply to a line over the limit, where there is one
+abbrev pub long_replies : Stop → ℕ → List (List ℕ)
+long_replies Parting number = []
+long_replies Ending number = []
+long_replies Overlong number = reply_line (wire.Long number) ∷ []
+long_replies Breaking number = []
+
+-- the replies that are owed, each as it is written: the opening's, one to each line, and that to a line over the limit
+abbrev pub replies_owed : List ℕ → List AnsweredLine → Stop → ℕ → List (List ℕ)
+replies_owed first turns stop number = first ∷ (map (λ (t : AnsweredLine). reply_line t.reply) turns ++ long_replies stop number)
+
 -- the next line of the bytes is over the limit
 abbrev pub EndsTalk : ℕ → List ℕ → Type 0
 EndsTalk limit bytes = (first : List ℕ) × (others : List (List ℕ)) × (lines bytes ≡ first ∷ others) × (limit < length first)
@@ -65,6 +76,16 @@ ReadsLines read stop end limit before after = IfSome before (λ bytes. (rest : L
 -- these are the lines that came whole: those of the bytes that were taken
 abbrev pub CameWhole : List (List ℕ) → Wires → Type 0
 CameWhole read w = (given : List ℕ) × (w.left_before ≡ in_front given w.rest) × (whole_lines given ≡ read)
+
+-- of these replies all but the last were written whole, and then a front of the last, if not all of it: so each line was read and answered
+-- only once the reply in front was written whole
+pub record WroteIntoLast (replies : List (List ℕ)) (old new : Option (List ℕ)) : Type 0 where
+  pub earlier : List (List ℕ)
+  pub last : List ℕ
+  pub split : replies ≡ earlier ++ last ∷ []
+  pub front : List ℕ
+  pub begins : Begins front last
+  pub is : new ≡ at_end old (concat earlier ++ front)
 
 -- a fault of the link ended the session: a write failed, and less was written than these bytes; or a read failed, and these lines are those that came whole
 abbrev pub StopsByFault : List (List ℕ) → List ℕ → SessionEnd → Wires → Type 0
@@ -93,6 +114,7 @@ pub record Talk (limit seat who : ℕ) (over : SessionEnd) (before after : List 
   pub short : AllOf (λ (t : AnsweredLine). length t.line ≤ limit) turns
   pub reads : ReadsLines (lines_of_turns turns) stop end limit w.left_before w.left_after
   pub wrote : Wrote (end_by over stop (2 + length turns)) end (first ++ (printed turns ++ last_by stop (2 + length turns))) w.taken_before w.taken_after
+  pub in_turn : WroteIntoLast (replies_owed first turns stop (2 + length turns)) w.taken_before w.taken_after
   pub fault : StopsByFault (lines_of_turns turns) (first ++ (printed turns ++ last_by stop (2 + length turns))) end w
   pub parting : PartsBy stop turns
 
