@@ -1,7 +1,7 @@
 -- Acts whose edits are drawn, one act further; they ask for edits alone.
-use Rattle.std.proofs.Common.{◌≡◌, ℕ, suc, ◌+◌, Bool, true, false, if◌then◌else◌, ◌||◌, not, cond, Option, None, Some, List, [], ◌∷◌, ◌++◌, refl, sym, ap, ◌∙◌, subst, arith}
+use Rattle.std.proofs.Common.{◌≡◌, ℕ, zero, suc, ◌+◌, ◌*◌, Bool, true, false, if◌then◌else◌, ◌||◌, not, cond, Option, None, Some, List, [], ◌∷◌, ◌++◌, refl, sym, ap, ◌∙◌, subst, arith}
 use Rattle.std.specs.Prelude.{count_by}
-use Rattle.std.proofs.lemmas.List.Sums.{sum_by-append}
+use Rattle.std.proofs.lemmas.List.Sums.{sum_by-cons, sum_by-append}
 use Rattle.seat_lock.specs.Lists.{AllOf}
 use Rattle.seat_lock.proofs.AllOf.{all_append}
 use Rattle.ot_text.specs.Change.{Change}
@@ -16,7 +16,7 @@ use Rattle.stage_state.specs.declared.act.Next.TheVariants as next
 use Rattle.stage_state.specs.Machine.{Machine, taken_count, edit_asked, after_own_edit, after_other_entry, next_number, next_open, after_sending, after_act, after_acts, IsSend, CanAct, IsPlayed}
 use Rattle.stage_state.specs.Staged.{Staged, acts_of, first_machine, machine, IsStagePlayed}
 use Rattle.agreement.specs.Agreement.{is_edit}
-use Rattle.jam_run.specs.Drawing.{is_typed, number_after_act, IsDrawn, number_after_acts, AreDrawn}
+use Rattle.jam_run.specs.Drawing.{is_typed, steps_of, burst_steps, number_after_act, IsDrawn, number_after_acts, AreDrawn}
 
 -- ---- one act further
 
@@ -32,17 +32,44 @@ pub drawn_one_more : (acts : List Act) (a : Act) (number : ℕ) (m : Machine) �
 drawn_one_more [] a number m h here = (here, tt)
 drawn_one_more (b ∷ acts) a number m h here = (h.0, drawn_one_more acts a (number_after_act number m b) (after_act b m) h.1 here)
 
--- one edit more
-pub typed_one_more : (acts : List Act) (op : Change) → count_by is_typed (acts ++ act.Typed op ∷ []) ≡ count_by is_typed acts + 1
-typed_one_more acts op = omega (arith, sum_by-append (λ (a : Act). cond (is_typed a) 1 0) acts (act.Typed op ∷ []))
+-- one act more: a step, but for one that takes an entry
+pub steps_one_more : (acts : List Act) (a : Act) → steps_of (acts ++ a ∷ []) ≡ steps_of acts ++ steps_of (a ∷ [])
+steps_one_more [] a = refl
+steps_one_more (act.Typed op ∷ acts) a = ap (λ (l : List Bool). true ∷ l) (steps_one_more acts a)
+steps_one_more (act.Eval place ∷ acts) a = ap (λ (l : List Bool). false ∷ l) (steps_one_more acts a)
+steps_one_more (act.Reset text ∷ acts) a = ap (λ (l : List Bool). false ∷ l) (steps_one_more acts a)
+steps_one_more (act.Take e ∷ acts) a = steps_one_more acts a
+steps_one_more (act.Next ∷ acts) a = ap (λ (l : List Bool). false ∷ l) (steps_one_more acts a)
+steps_one_more (act.Finish ∷ acts) a = ap (λ (l : List Bool). false ∷ l) (steps_one_more acts a)
+steps_one_more (act.Halt ∷ acts) a = ap (λ (l : List Bool). false ∷ l) (steps_one_more acts a)
 
--- one entry more
-pub taken_one_more : (acts : List Act) (e : Entry) → count_by is_typed (acts ++ act.Take e ∷ []) ≡ count_by is_typed acts
-taken_one_more acts e = omega (arith, sum_by-append (λ (a : Act). cond (is_typed a) 1 0) acts (act.Take e ∷ []))
+-- how many of the steps are edits
+abbrev edits_among : List Bool → ℕ
+edits_among steps = count_by (λ (b : Bool). b) steps
 
--- one call more
-pub sent_call_more : (acts : List Act) → count_by is_typed (acts ++ act.Next ∷ []) ≡ count_by is_typed acts
-sent_call_more acts = omega (arith, sum_by-append (λ (a : Act). cond (is_typed a) 1 0) acts (act.Next ∷ []))
+-- as many as among the acts
+edits_are : (acts : List Act) → count_by is_typed acts ≡ edits_among (steps_of acts)
+edits_are [] = refl
+edits_are (act.Typed op ∷ acts) =
+    let of_acts : count_by is_typed (act.Typed op ∷ acts) ≡ 1 + count_by is_typed acts = sum_by-cons (λ (a : Act). cond (is_typed a) 1 0) (act.Typed op) acts in
+    let of_steps : edits_among (true ∷ steps_of acts) ≡ 1 + edits_among (steps_of acts) = sum_by-cons (λ (b : Bool). cond b 1 0) true (steps_of acts) in
+    of_acts ∙ ap (λ (k : ℕ). 1 + k) (edits_are acts) ∙ sym of_steps
+edits_are (act.Eval place ∷ acts) = edits_are acts
+edits_are (act.Reset text ∷ acts) = edits_are acts
+edits_are (act.Take e ∷ acts) = edits_are acts
+edits_are (act.Next ∷ acts) = edits_are acts
+edits_are (act.Finish ∷ acts) = edits_are acts
+edits_are (act.Halt ∷ acts) = edits_are acts
+
+edits_of_bursts : (n : ℕ) → edits_among (burst_steps n) ≡ 3 * n
+edits_of_bursts zero = refl
+edits_of_bursts (suc n) =
+    let r = edits_of_bursts n in
+    omega (arith, r, sum_by-append (λ (b : Bool). cond b 1 0) (burst_steps n) (true ∷ true ∷ true ∷ false ∷ false ∷ []))
+
+-- three edits for each burst
+pub typed_of_bursts : (acts : List Act) (n : ℕ) → steps_of acts ≡ burst_steps n → count_by is_typed acts ≡ 3 * n
+typed_of_bursts acts n e = edits_are acts ∙ ap edits_among e ∙ edits_of_bursts n
 
 -- ---- edits alone
 

@@ -1,5 +1,5 @@
 -- The rows of a closed log, from what all its seats know.
-use Rattle.std.proofs.Common.{◌≡◌, ⊎_elim, ℕ, zero, suc, ◌+◌, ◌*◌, ◌<◌, ◌≤◌, true, false, Some, List, [], ◌∷◌, ◌++◌, length, length-append, map, drop, slice_get, refl, sym, ap, ◌∙◌, subst, mul_comm, mul_assoc, arith}
+use Rattle.std.proofs.Common.{◌≡◌, ⊎_elim, ℕ, zero, suc, ◌+◌, ◌*◌, ◌<◌, ◌≤◌, Bool, true, false, Some, List, [], ◌∷◌, ◌++◌, length, length-append, map, drop, slice_get, refl, sym, ap, ◌∙◌, subst, mul_comm, mul_assoc, arith}
 use Rattle.std.proofs.lemmas.List.{drop-append-le}
 use Rattle.seat_lock.specs.Lists.{AllOf, IsIn, rows_of}
 use Rattle.seat_lock.proofs.AllOf.{all_map, nil_of}
@@ -15,7 +15,7 @@ use Rattle.jam_run.specs.declared.player.Player.{Player}
 use Rattle.jam_run.specs.Joins.{join_rows}
 use Rattle.jam_run.specs.Drawing.{first_number}
 use Rattle.jam_run.specs.Playing.{row_pair, IsPlaying}
-use Rattle.jam_run.specs.Jams.{IsEditOfOne, AreJamRows}
+use Rattle.jam_run.specs.Jams.{IsEditOfOne, AreThroughOwn, AreJamRows}
 use Rattle.jam_run.proofs.AreDrawn.{AreEdits, stage_asks}
 use Rattle.jam_run.proofs.RowsOf.{all_parts, all_both, none_both, rows_all, rows_keep}
 use Rattle.jam_run.proofs.PairsBy.{pairs_by-append, IsThrough, pairs_by_seat, count_of_all}
@@ -41,14 +41,14 @@ abbrev pub IsEditBy : ℕ → Row → Type 0
 IsEditBy who r = (r.who ≡ who) × (is_edit r.call ≡ true)
 
 -- what was placed through a performer's seat is its edits
-pub own_edits : (seed typed sent owed who : ℕ) (seen own : List Row) (s : Staged) (n : ℕ) → IsPlaying seed typed sent owed who seen own s n → AllOf (IsEditBy who) own
-own_edits seed typed sent owed who seen own s n h =
+pub own_edits : (seed : ℕ) (steps : List Bool) (sent owed who : ℕ) (seen own : List Row) (s : Staged) (n : ℕ) → IsPlaying seed steps sent owed who seen own s n → AllOf (IsEditBy who) own
+own_edits seed steps sent owed who seen own s n h =
     let asks = stage_asks s (first_number seed who) h.played h.drawn in
     all_both (λ (r : Row). r.who ≡ who) (λ (r : Row). is_edit r.call ≡ true) own h.mine (edits_are own 1 (machine s).sent h.placed asks.sent_are)
 
 -- as many as were sent
-pub own_count : (seed typed sent owed who : ℕ) (seen own : List Row) (s : Staged) (n : ℕ) → IsPlaying seed typed sent owed who seen own s n → length (sent_pairs (machine s)) ≡ sent
-own_count seed typed sent owed who seen own s n h = length-counted_from 1 (machine s).sent ∙ h.sent_is
+pub own_count : (seed : ℕ) (steps : List Bool) (sent owed who : ℕ) (seen own : List Row) (s : Staged) (n : ℕ) → IsPlaying seed steps sent owed who seen own s n → length (sent_pairs (machine s)) ≡ sent
+own_count seed steps sent owed who seen own s n h = length-counted_from 1 (machine s).sent ∙ h.sent_is
 
 -- ---- whose a row is
 
@@ -102,6 +102,18 @@ known_through ps i p r order there k = (λ seat. (k.each i p there seat).0, thro
         let both : Some k.player ≡ Some p = sym k.there ∙ ap (slice_get ps) same ∙ there in
         let one : k.player ≡ p = cc in
         k.seat_is ∙ ap (λ (q : Player). q.seat.number) one
+
+-- each performer has a seat of its own
+through_own : (ps : List Player) (edits : List Row) → AreInOrder ps → AllOf (IsKnown ps) edits → AreThroughOwn edits
+through_own ps edits order known =
+    all_map (IsKnown ps) (λ (r : Row). AllOf (λ (s : Row). (r.seat ≡ s.seat → r.who ≡ s.who) × (r.who ≡ s.who → r.seat ≡ s.seat)) edits)
+    (λ r k. all_map (IsKnown ps) (λ (s : Row). (r.seat ≡ s.seat → r.who ≡ s.who) × (r.who ≡ s.who → r.seat ≡ s.seat)) (λ s l. both r s k l) edits known) edits known
+  where
+    both : (r s : Row) → IsKnown ps r → IsKnown ps s → (r.seat ≡ s.seat → r.who ≡ s.who) × (r.who ≡ s.who → r.seat ≡ s.seat)
+    both r s k l =
+        let t = known_through ps l.index l.player r order l.there k in
+        let his : s.who ≡ l.player.who = (l.each l.index l.player l.there l.seat_is).0 in
+        (λ seat. t.0 (seat ∙ l.seat_is) ∙ sym his, λ who. t.1 (who ∙ his) ∙ sym l.seat_is)
 
 -- ---- all rows
 
@@ -193,6 +205,7 @@ jam_rows performers calls log edits first ps h =
       edits = edits;
       rows = h.begins;
       every = every;
+      apart = through_own ps edits h.order (closed_known performers calls log edits first ps h);
       each = each;
       count = ap length h.begins ∙ length-append (join_rows performers) edits ∙ ap (λ k. k + length edits) (length-join_rows performers) ∙ ap (λ k. performers + k) (count ∙ twice performers calls);
     }

@@ -21,12 +21,13 @@ use Rattle.agreement.proofs.IsAligned.{aligned_agrees}
 use Rattle.agreement.proofs.Document.{holds_all}
 use Rattle.jam_run.specs.declared.player.Player.{Player}
 use Rattle.jam_run.specs.Joins.{join_row, join_rows}
-use Rattle.jam_run.specs.Drawing.{first_number, AreDrawn}
+use Rattle.jam_run.specs.Drawing.{first_number, burst_steps, AreDrawn}
 use Rattle.jam_run.specs.Taking.{TakesRest, TakeRests, IsWithin}
 use Rattle.jam_run.specs.Playing.{IsAtRest, IsPlayer, AreSamePlayers, AreNumbered, indexes_of, IsCast}
 use Rattle.wire_print.specs.Printed.{printed_line, jam_data}
 use Rattle.jam_run.specs.Jams.{entry_count, HasJammed, IsJam, staged_of, jam_line}
 use Rattle.jam_run.proofs.Owed.{none_outstanding}
+use Rattle.jam_run.proofs.AreDrawn.{typed_of_bursts}
 use Rattle.jam_run.proofs.IsPlaying.{sees_more, TookAll, taken_is, taken_within, rest_more}
 use Rattle.jam_run.proofs.JoinRows.{length-join_rows, slice_get-join_rows}
 use Rattle.jam_run.proofs.AreJamRows.{own_edits, own_count, numbers_of, AreInOrder, OwnRows, IsClosed, player_at, pairs_behind_join, jam_rows}
@@ -143,8 +144,8 @@ module _ (hall : DeskHallValue) (calls seed : ℕ) (first : DeskSeatValue) (ps :
         let rests = rests_at i p there in
         let h = rests.1.playing in
         record {
-          edits = own_edits seed (3 * calls) (2 * calls) 0 p.who p.seat.seen p.seat.own p.stage.staged rests.0 h;
-          count = ap length h.placed ∙ own_count seed (3 * calls) (2 * calls) 0 p.who p.seat.seen p.seat.own p.stage.staged rests.0 h;
+          edits = own_edits seed (burst_steps calls) (2 * calls) 0 p.who p.seat.seen p.seat.own p.stage.staged rests.0 h;
+          count = ap length h.placed ∙ own_count seed (burst_steps calls) (2 * calls) 0 p.who p.seat.seen p.seat.own p.stage.staged rests.0 h;
           rows = all_at (λ (q : Player). rows_of (λ (r : Row). r.seat) q.seat.number log ≡ q.seat.own) ps i p
               (of_images (λ (s : DeskSeatValue). rows_of (λ (r : Row). r.seat) s.number log ≡ s.own) (λ (q : Player). q.seat) ps account.own.1) there;
         }
@@ -170,8 +171,8 @@ module _ (hall : DeskHallValue) (calls seed : ℕ) (first : DeskSeatValue) (ps :
         within_at : (i : ℕ) (p : Player) → slice_get ps i ≡ Some p → IsWithin log p.stage
         within_at i p there =
             let rests = rests_at i p there in
-            let h = sees_more seed (3 * calls) (2 * calls) 0 p.who p.seat.seen log p.seat.own p.seat.own p.stage.staged rests.0 (begins_at i p there) refl rests.1.playing in
-            let few = taken_within seed (3 * calls) (2 * calls) 0 p.who log p.seat.own p.stage.staged rests.0 h in
+            let h = sees_more seed (burst_steps calls) (2 * calls) 0 p.who p.seat.seen log p.seat.own p.seat.own p.stage.staged rests.0 (begins_at i p there) refl rests.1.playing in
+            let few = taken_within seed (burst_steps calls) (2 * calls) 0 p.who log p.seat.own p.stage.staged rests.0 h in
             omega (arith, few, length-entries_from 0 log)
 
         from_each : (qs : List Player) → ((i : ℕ) (p : Player) → slice_get qs i ≡ Some p → IsWithin log p.stage) → AllOf (λ (p : Player). IsWithin log p.stage) qs
@@ -183,8 +184,8 @@ module _ (hall : DeskHallValue) (calls seed : ℕ) (first : DeskSeatValue) (ps :
     jammed_at i p t legal there rest =
         let rests = rests_at i p there in
         let s : Staged = p.stage.staged in
-        let h = sees_more seed (3 * calls) (2 * calls) 0 p.who p.seat.seen log p.seat.own p.seat.own s rests.0 (begins_at i p there) refl rests.1.playing in
-        let took : TookAll seed (3 * calls) (2 * calls) 0 p.who log p.seat.own s t rests.0 = rest_more seed (3 * calls) (2 * calls) 0 p.who log p.seat.own s t rests.0 (drop (taken_count (machine s)) (entries log)) refl rest h in
+        let h = sees_more seed (burst_steps calls) (2 * calls) 0 p.who p.seat.seen log p.seat.own p.seat.own s rests.0 (begins_at i p there) refl rests.1.playing in
+        let took : TookAll seed (burst_steps calls) (2 * calls) 0 p.who log p.seat.own s t rests.0 = rest_more seed (burst_steps calls) (2 * calls) 0 p.who log p.seat.own s t rests.0 (drop (taken_count (machine s)) (entries log)) refl rest h in
         let playing = took.playing in
         let who : p.who ≡ suc i = in_order ps cast.numbered i p there in
         let own : t.own ≡ suc i = playing.own_is ∙ who in
@@ -214,7 +215,8 @@ module _ (hall : DeskHallValue) (calls seed : ℕ) (first : DeskSeatValue) (ps :
           agrees = agrees;
           holds = holds_all log (machine t) None legal agrees all none;
           drawn = subst (λ (k : ℕ). AreDrawn (first_number seed k) (first_machine t) (acts_of t.acts)) (who ∙ omega arith) playing.drawn;
-          typed = playing.typed_is;
+          typed = typed_of_bursts (acts_of t.acts) calls playing.steps_are;
+          bursts = playing.steps_are;
         }
 
     -- a run whose stages took the rest of its log

@@ -1,5 +1,5 @@
 -- Acts of a performer whose edits are drawn.
-use Rattle.std.specs.Prelude.{◌≡◌, ℕ, ◌+◌, ◌%◌, ◌^◌, Bool, true, false, List, [], ◌∷◌, length}
+use Rattle.std.specs.Prelude.{◌≡◌, ℕ, ◌+◌, ◌%◌, ◌^◌, zero, suc, ◌++◌, Bool, true, false, List, [], ◌∷◌, length, map}
 use Rattle.stage_state.specs.declared.act.Act.{Act}
 use Rattle.stage_state.specs.declared.act.Act.TheVariants as act
 use Rattle.stage_state.specs.Machine.{Machine, held_text, after_act}
@@ -18,6 +18,26 @@ is_typed (act.Take e) = false
 is_typed act.Next = false
 is_typed act.Finish = false
 is_typed act.Halt = false
+
+-- these acts without those that take entries
+abbrev pub without_takes : List Act → List Act
+without_takes [] = []
+without_takes (act.Typed op ∷ acts) = act.Typed op ∷ without_takes acts
+without_takes (act.Eval place ∷ acts) = act.Eval place ∷ without_takes acts
+without_takes (act.Reset text ∷ acts) = act.Reset text ∷ without_takes acts
+without_takes (act.Take e ∷ acts) = without_takes acts
+without_takes (act.Next ∷ acts) = act.Next ∷ without_takes acts
+without_takes (act.Finish ∷ acts) = act.Finish ∷ without_takes acts
+without_takes (act.Halt ∷ acts) = act.Halt ∷ without_takes acts
+
+-- which of them are edits
+abbrev pub steps_of : List Act → List Bool
+steps_of acts = map is_typed (without_takes acts)
+
+-- so many bursts: three edits, and then two that are none, each time
+abbrev pub burst_steps : ℕ → List Bool
+burst_steps zero = []
+burst_steps (suc n) = burst_steps n ++ true ∷ true ∷ true ∷ false ∷ false ∷ []
 
 -- the number held after an act: an edit is drawn for the text held before it
 abbrev pub number_after_act : ℕ → Machine → Act → ℕ

@@ -14,7 +14,7 @@ use Rattle.replay_run.specs.declared.outcome.Outcome.TheVariants as outcome
 use Rattle.replay_run.specs.Outcome.{code_of, error_line}
 use Rattle.replay_run.specs.Ports.{Port, IsCalm, IsFaulted, Took, TookPrefix, Reported}
 use Rattle.jam_run.specs.declared.runs.Jammed.{Jammed}
-use Rattle.jam_run.specs.Drawing.{first_number, is_typed, AreDrawn}
+use Rattle.jam_run.specs.Drawing.{first_number, is_typed, steps_of, burst_steps, AreDrawn}
 use Rattle.jam_run.specs.Joins.{join_rows}
 
 -- how many rows so many performers make with so many bursts each: a join each, and two edits a burst
@@ -27,16 +27,23 @@ pub record IsEditOfOne (performers : ℕ) (row : Row) : Type 0 where
   pub from : 1 ≤ row.who
   pub to : row.who ≤ performers
 
--- the log is the joins of all performers in order, and then two edits of each for each burst, in any order, and no others
+-- two of these rows were placed through one seat exactly where they are one performer's
+abbrev pub AreThroughOwn : List Row → Type 0
+AreThroughOwn rows = AllOf (λ (r : Row). AllOf (λ (s : Row). (r.seat ≡ s.seat → r.who ≡ s.who) × (r.who ≡ s.who → r.seat ≡ s.seat)) rows) rows
+
+-- the log is the joins of all performers in order, and then two edits of each for each burst, in any order, and no others;
+-- each has a seat of its own for them
 pub record AreJamRows (performers calls : ℕ) (log : List Row) : Type 0 where
   pub edits : List Row
   pub rows : log ≡ join_rows performers ++ edits
   pub every : AllOf (IsEditOfOne performers) edits
+  pub apart : AreThroughOwn edits
   pub each : (who : ℕ) → 1 ≤ who → who ≤ performers → length (pairs_by who edits) ≡ 2 * calls
   pub count : length log ≡ entry_count performers calls
 
 -- The stage of performer `who` has taken all of the log, awaits nothing, agrees with it with nothing in a lane, and so holds its document. Its
--- edits are three for each burst, each drawn for the text held before it, in order, from its own number on.
+-- edits are three for each burst, each drawn for the text held before it, in order, from its own number on. But for entries taken its acts are bursts:
+-- three edits are typed, and then twice a call goes out.
 pub record HasJammed (log : List Row) (calls seed who : ℕ) (s : Staged) : Type 0 where
   pub own : s.own ≡ who
   pub took_all : (machine s).entries ≡ entries log
@@ -45,6 +52,7 @@ pub record HasJammed (log : List Row) (calls seed who : ℕ) (s : Staged) : Type
   pub holds : held_text (machine s) ≡ doc log
   pub drawn : AreDrawn (first_number seed who) (first_machine s) (acts_of s.acts)
   pub typed : count_by is_typed (acts_of s.acts) ≡ 3 * calls
+  pub bursts : steps_of (acts_of s.acts) ≡ burst_steps calls
 
 -- the stages alone
 abbrev pub staged_of : List StageValue → List Staged

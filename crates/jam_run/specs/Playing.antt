@@ -1,5 +1,5 @@
 -- Performers in a run.
-use Rattle.std.specs.Prelude.{◌≡◌, ℕ, suc, ◌+◌, ◌-◌, ◌*◌, ◌<◌, List, [], length, map, count_by, slice_index_or, All, false}
+use Rattle.std.specs.Prelude.{◌≡◌, ℕ, suc, ◌+◌, ◌-◌, ◌*◌, ◌<◌, List, [], length, map, slice_index_or, All, Bool, false}
 use Rattle.seat_lock.specs.Lists.{Begins, AllOf}
 use Rattle.troop_entry.specs.declared.call.Call.{Call}
 use Rattle.troop_entry.specs.declared.row.Row.{Row}
@@ -9,7 +9,7 @@ use Rattle.stage_state.specs.Staged.{Staged, new_stage, acts_of, first_machine, 
 use Rattle.troop_hall.specs.Seats.{DeskHallValue, DeskSeatValue, IsDeskSeat, IsLater}
 use Rattle.replay_run.specs.Shown.{awaits}
 use Rattle.jam_run.specs.declared.player.Player.{Player}
-use Rattle.jam_run.specs.Drawing.{first_number, is_typed, number_after_acts, AreDrawn}
+use Rattle.jam_run.specs.Drawing.{first_number, steps_of, burst_steps, number_after_acts, AreDrawn}
 use Rattle.jam_run.specs.Joins.{join_rows}
 
 -- the number and the call of a row
@@ -24,10 +24,10 @@ awaited s = awaits (machine s).pending
 abbrev pub owed_by : Machine → ℕ
 owed_by m = length m.outgoing + (awaits m.pending - 1)
 
--- Performer `who` with a stage that began at the empty log, whose seat has seen and placed these rows. So many edits were typed, each as it is
--- drawn, of which the last left this number; so many calls were sent, which are the seat's rows, and so many are owed; what was taken is what the log
+-- Performer `who` with a stage that began at the empty log, whose seat has seen and placed these rows. Its edits and the calls that went out are these
+-- steps, each edit as it is drawn, of which the last left this number; so many calls were sent, which are the seat's rows, and so many are owed; what was taken is what the log
 -- told first.
-pub record IsPlaying (seed typed sent owed who : ℕ) (seen own : List Row) (s : Staged) (number : ℕ) : Type 0 where
+pub record IsPlaying (seed : ℕ) (steps : List Bool) (sent owed who : ℕ) (seen own : List Row) (s : Staged) (number : ℕ) : Type 0 where
   pub own_is : s.own ≡ who
   pub joined_is : suc s.joined ≡ who
   pub start_is : s.start ≡ 0
@@ -35,7 +35,7 @@ pub record IsPlaying (seed typed sent owed who : ℕ) (seen own : List Row) (s :
   pub played : IsStagePlayed s
   pub drawn : AreDrawn (first_number seed who) (first_machine s) (acts_of s.acts)
   pub number_is : number ≡ number_after_acts (first_number seed who) (first_machine s) (acts_of s.acts)
-  pub typed_is : count_by is_typed (acts_of s.acts) ≡ typed
+  pub steps_are : steps_of (acts_of s.acts) ≡ steps
   pub sent_is : length (machine s).sent ≡ sent
   pub owed_is : owed_by (machine s) ≡ owed
   pub placed : map row_pair own ≡ sent_pairs (machine s)
@@ -44,12 +44,12 @@ pub record IsPlaying (seed typed sent owed who : ℕ) (seen own : List Row) (s :
 
 -- it has made so many bursts, which are confirmed
 pub record IsAtRest (seed bursts who : ℕ) (seen own : List Row) (s : Staged) (number : ℕ) : Type 0 where
-  pub playing : IsPlaying seed (3 * bursts) (2 * bursts) 0 who seen own s number
+  pub playing : IsPlaying seed (burst_steps bursts) (2 * bursts) 0 who seen own s number
   pub none : awaited s ≡ 0
 
 -- of a performer: it plays so
-abbrev pub Plays : ℕ → ℕ → ℕ → ℕ → Player → ℕ → Type 0
-Plays seed typed sent owed p number = IsPlaying seed typed sent owed p.who p.seat.seen p.seat.own p.stage.staged number
+abbrev pub Plays : ℕ → List Bool → ℕ → ℕ → Player → ℕ → Type 0
+Plays seed steps sent owed p number = IsPlaying seed steps sent owed p.who p.seat.seen p.seat.own p.stage.staged number
 
 -- it is at rest so
 abbrev pub Rests : ℕ → ℕ → Player → ℕ → Type 0

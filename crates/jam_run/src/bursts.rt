@@ -1,5 +1,5 @@
 //! Bursts of edits: three are typed, and reach the log as two.
-ghost use Rattle.std.specs.Prelude.{◌≡◌, ◌<◌, ◌+◌, ◌-◌, ℕ, min, List, OnOk};
+ghost use Rattle.std.specs.Prelude.{◌≡◌, ◌<◌, ◌+◌, ◌-◌, ◌++◌, ◌∷◌, [], ℕ, Bool, true, false, min, List, OnOk};
 ghost use Rattle.troop_entry.specs.declared.row.Row.{Row};
 ghost use Rattle.replay_run.specs.Shown.{awaits};
 ghost use Rattle.troop_hall.specs.Seats.{IsDeskSeat};
@@ -40,8 +40,8 @@ pub fn burst<R: Wait>(
 
 // Types an edit that is drawn for the text held. It fits that text, so memory alone is wanting where it isn't placed.
 fn type_edit(alloc: Global, stage: &mut Stage, draws: &mut Draws) -> Result<(), AllocError>
-    ensures { OnOk result ((seed typed sent k who : ℕ) (seen own : List Row) → IsPlaying seed typed sent k who seen own stage.old.staged draws.old → awaited stage.old.staged ≡ k
-        → IsPlaying seed (typed + 1) sent (min 2 (k + 1)) who seen own stage.new.staged draws.new × (awaited stage.new.staged ≡ min 2 (k + 1))) }
+    ensures { OnOk result ((seed sent k who : ℕ) (steps : List Bool) (seen own : List Row) → IsPlaying seed steps sent k who seen own stage.old.staged draws.old → awaited stage.old.staged ≡ k
+        → IsPlaying seed (steps ++ true ∷ []) sent (min 2 (k + 1)) who seen own stage.new.staged draws.new × (awaited stage.new.staged ≡ min 2 (k + 1))) }
 {
     let length = stage.doc().len();
     let op = draws.edit(alloc, length)?;
@@ -55,7 +55,7 @@ fn type_edit(alloc: Global, stage: &mut Stage, draws: &mut Draws) -> Result<(), 
 fn exchange<R: Wait>(rt: &R, hall: &DeskHall, player: &mut Player) -> Result<(), AllocError>
     requires { IsDeskSeat hall.now player.old.seat }
     ensures same { IsSameLater hall.now player.old player.new }
-    ensures sent { OnOk result ((seed typed sent owed n : ℕ) → Plays seed typed sent owed player.old n → Plays seed typed (sent + 1) (owed - 1) player.new n) }
+    ensures sent { OnOk result ((seed sent owed n : ℕ) (steps : List Bool) → Plays seed steps sent owed player.old n → Plays seed (steps ++ false ∷ []) (sent + 1) (owed - 1) player.new n) }
     ensures confirmed { OnOk result (awaited player.new.stage.staged < awaited player.old.stage.staged) }
 {
     let before = awaits(player.stage.state());
@@ -73,7 +73,7 @@ fn exchange<R: Wait>(rt: &R, hall: &DeskHall, player: &mut Player) -> Result<(),
 fn send<R: Wait>(rt: &R, hall: &DeskHall, player: &mut Player) -> Result<(), AllocError>
     requires { IsDeskSeat hall.now player.old.seat }
     ensures same { IsSameLater hall.now player.old player.new }
-    ensures sent { OnOk result ((seed typed sent owed n : ℕ) → Plays seed typed sent owed player.old n → Plays seed typed (sent + 1) (owed - 1) player.new n) }
+    ensures sent { OnOk result ((seed sent owed n : ℕ) (steps : List Bool) → Plays seed steps sent owed player.old n → Plays seed (steps ++ false ∷ []) (sent + 1) (owed - 1) player.new n) }
 {
     let Next::Send { num, call } = player.stage.next()? else {
         return Err(AllocError);
@@ -93,7 +93,7 @@ fn send<R: Wait>(rt: &R, hall: &DeskHall, player: &mut Player) -> Result<(), All
 fn take_more<R: Wait>(rt: &R, hall: &DeskHall, player: &mut Player) -> Result<(), AllocError>
     requires { IsDeskSeat hall.now player.old.seat }
     ensures same { IsSameLater hall.now player.old player.new }
-    ensures taken { OnOk result ((seed typed sent owed n : ℕ) → Plays seed typed sent owed player.old n → Plays seed typed sent owed player.new n) }
+    ensures taken { OnOk result ((seed sent owed n : ℕ) (steps : List Bool) → Plays seed steps sent owed player.old n → Plays seed steps sent owed player.new n) }
 {
     let entries = hall.wait_past(rt, &mut player.seat, player.stage.taken())?;
     take_all(&mut player.stage, entries.as_slice())

@@ -1,4 +1,5 @@
-use Rattle.std.proofs.Common.{◌≡◌, ◌+◌, ◌*◌, ℕ, min}
+use Rattle.std.proofs.Common.{◌≡◌, ◌*◌, ◌++◌, ℕ, true, replicate, min}
+use Rattle.jam_run.specs.Drawing.{burst_steps}
 use Rattle.jam_run.specs.Playing.{Plays, Rests, awaited}
 use Rattle.jam_run.proofs.bursts.burst.Given as goal
 
@@ -8,5 +9,5 @@ invariant-loop-typed g l = record {
   who : l.player.who ≡ l.initial.player.who;
   seat : l.player.seat ≡ l.initial.player.seat;
   playing : (seed bursts : ℕ) → Rests seed bursts l.initial.player l.initial.draws
-      → Plays seed (3 * bursts + l.typed) (2 * bursts) (min 2 l.typed) l.player l.draws × (awaited l.player.stage.staged ≡ min 2 l.typed);
+      → Plays seed (burst_steps bursts ++ replicate l.typed true) (2 * bursts) (min 2 l.typed) l.player l.draws × (awaited l.player.stage.staged ≡ min 2 l.typed);
 }
