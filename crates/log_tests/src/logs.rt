@@ -10,6 +10,7 @@ fn each_law_is_called(_rt: HostRuntime) {
     entries_law();
     fits_law();
     front_law();
+    marks_law();
     members_law();
     numbers_law();
     once_law();

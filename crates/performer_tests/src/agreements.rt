@@ -10,4 +10,5 @@ fn each_law_is_called(_rt: HostRuntime) {
     run_law();
     stages_law();
     take_law();
+    waiting_law();
 }

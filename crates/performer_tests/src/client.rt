@@ -6,6 +6,7 @@ use ot_text::{Op, Text};
 use std::alloc::{AllocError, Global};
 use std::process::Abort;
 use std::test::Fail;
+use troop_doc::Doc;
 use troop_entry::{Deed, Entry, Lang};
 
 /// What a client is given.
@@ -125,15 +126,16 @@ fn is_told(alloc: Global, client: &mut Client, row: &Row) -> Result<bool, AllocE
     }
 }
 
+// Whether the client tells what the row says, and then holds what it says.
+fn is_row(alloc: Global, client: &mut Client, row: &Row) -> Result<bool, AllocError> {
+    let is_told = is_told(alloc, client, row)?;
+    let is_held = client.doc().text()?.same(&Text::of(alloc, row.2)?);
+    Ok(is_told && is_held && outstanding(client.state()) == row.3)
+}
+
 fn play(rt: &impl Abort, alloc: Global, client: &mut Client, rows: &[Row]) -> Result<(), Fail> {
     for row in rows {
-        assert!(rt; is_told(alloc, client, row)?, "{}", row.2);
-        assert!(rt;
-            client.doc().text()?.same(&Text::of(alloc, row.2)?),
-            "{}",
-            row.2
-        );
-        assert_eq!(rt; outstanding(client.state()), row.3);
+        assert!(rt; is_row(alloc, client, row)?, "{}", row.2);
     }
     Ok(())
 }
@@ -265,27 +267,47 @@ fn clients_answer_and_hold_what_their_rows_say(rt: HostRuntime) -> Result<(), Fa
     on_new(&rt, rt.alloc(), RESET)
 }
 
+// Whether both hold the document of all five entries.
+fn agree(ann: &Client, bob: &Client) -> Result<bool, AllocError> {
+    let runs = ann.doc().runs()?;
+    let are_runs = runs.as_slice()
+        == [Run { who: 1, count: 3 }, Run { who: 2, count: 1 }].as_slice();
+    Ok(are_runs && ann.doc().same(bob.doc()) && ann.taken() == 5 && bob.taken() == 5)
+}
+
+fn play_both(
+    rt: &impl Abort,
+    alloc: Global,
+    ann: &mut Client,
+    bob: &mut Client,
+) -> Result<(), Fail> {
+    play(rt, alloc, ann, ANN)?;
+    play(rt, alloc, bob, BOB)?;
+    assert!(rt; agree(ann, bob)?);
+    Ok(())
+}
+
 #[test]
 fn two_clients_come_to_one_document(rt: HostRuntime) -> Result<(), Fail> {
     let alloc = rt.alloc();
-    let mut ann = Client::new(alloc, 1);
-    let mut bob = Client::new(alloc, 2);
-    play(&rt, alloc, &mut ann, ANN)?;
-    play(&rt, alloc, &mut bob, BOB)?;
-    assert!(rt; ann.doc().same(bob.doc()) && ann.taken() == 5 && bob.taken() == 5);
-    assert!(rt;
-        ann.doc().runs()?.as_slice()
-            == [Run { who: 1, count: 3 }, Run { who: 2, count: 1 }].as_slice()
-    );
-    Ok(())
+    play_both(
+        &rt,
+        alloc,
+        &mut Client::new(alloc, 1),
+        &mut Client::new(alloc, 2),
+    )
+}
+
+// The document of a client that typed a greeting.
+fn greeted(rt: &impl Abort, alloc: Global, client: &mut Client) -> Result<Doc, Fail> {
+    play(rt, alloc, client, GREETS)?;
+    Ok(client.doc().try_clone()?)
 }
 
 #[test]
 fn a_client_starts_behind_entries_with_their_document(rt: HostRuntime) -> Result<(), Fail> {
     let alloc = rt.alloc();
-    let mut before = Client::new(alloc, 1);
-    play(&rt, alloc, &mut before, GREETS)?;
-    let doc = before.doc().try_clone()?;
+    let doc = greeted(&rt, alloc, &mut Client::new(alloc, 1))?;
     play(
         &rt,
         alloc,

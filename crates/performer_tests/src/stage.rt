@@ -8,6 +8,7 @@ use stage_state::{
 use std::alloc::{AllocError, Global};
 use std::process::Abort;
 use std::test::Fail;
+use troop_doc::Doc;
 use troop_entry::{Block, Call, Deed, Entry};
 
 /// What a stage is given.
@@ -132,32 +133,51 @@ fn is_taken(
     }
 }
 
+fn is_typed(
+    alloc: Global,
+    stage: &mut Stage,
+    shape: Shape,
+    told: Told,
+) -> Result<bool, AllocError> {
+    let op = shape.op(alloc)?;
+    Ok(is_answer(stage.type_op(&op), told))
+}
+
+fn is_reset(alloc: Global, stage: &mut Stage, text: &str, told: Told) -> Result<bool, AllocError> {
+    let text = Text::of(alloc, text)?;
+    Ok(is_answer(stage.ask_reset(&text), told))
+}
+
+fn is_closed_by(stage: &mut Stage, given: Given) -> bool {
+    if matches!(given, Given::Finish) {
+        stage.finish();
+    } else {
+        stage.halt();
+    }
+    stage.is_closed()
+}
+
 fn is_told(alloc: Global, stage: &mut Stage, given: Given, told: Told) -> Result<bool, AllocError> {
     match given {
-        Given::Types(shape) => Ok(is_answer(stage.type_op(&shape.op(alloc)?), told)),
-        Given::Resets(text) => Ok(is_answer(stage.ask_reset(&Text::of(alloc, text)?), told)),
+        Given::Types(shape) => is_typed(alloc, stage, shape, told),
+        Given::Resets(text) => is_reset(alloc, stage, text, told),
         Given::Evals(place) => Ok(is_answer(stage.ask_eval(place), told)),
-        Given::Takes(at, who, what) => is_taken(
-            alloc,
-            stage.take(&entry(alloc, at, who, what)?),
-            told,
-        ),
+        Given::Takes(at, who, what) => {
+            let entry = entry(alloc, at, who, what)?;
+            is_taken(alloc, stage.take(&entry), told)
+        }
         Given::Next => goes_on(alloc, stage, told),
-        Given::Finish => {
-            stage.finish();
-            Ok(stage.is_closed())
-        }
-        Given::Halt => {
-            stage.halt();
-            Ok(stage.is_closed())
-        }
+        Given::Finish | Given::Halt => Ok(is_closed_by(stage, given)),
     }
+}
+
+fn is_row(alloc: Global, stage: &mut Stage, row: Row) -> Result<bool, AllocError> {
+    Ok(is_told(alloc, stage, row.0, row.1)? && is_text(alloc, &stage.doc().text()?, row.2)?)
 }
 
 fn play(rt: &impl Abort, alloc: Global, stage: &mut Stage, rows: &[Row]) -> Result<(), Fail> {
     for row in rows {
-        assert!(rt; is_told(alloc, stage, row.0, row.1)?);
-        assert!(rt; is_text(alloc, &stage.doc().text()?, row.2)?);
+        assert!(rt; is_row(alloc, stage, *row)?);
     }
     Ok(())
 }
@@ -259,13 +279,24 @@ const HALTED: &[Row] = &[
     Row(Given::Next, Told::Done, ""),
 ];
 
+// Its own leave was sent and taken, and nothing is outstanding.
+fn has_left(stage: &Stage) -> bool {
+    stage.leave_sent()
+        && stage.is_gone()
+        && stage.taken() == 1
+        && !stage.state().is_awaiting()
+        && stage.acts().len() == 3
+}
+
+fn leave_and_halt(rt: &impl Abort, alloc: Global, stage: &mut Stage) -> Result<(), Fail> {
+    play(rt, alloc, stage, LEAVE_GOES_OUT_ONCE)?;
+    assert!(rt; has_left(stage));
+    play(rt, alloc, stage, HALTED)
+}
+
 #[test]
 fn a_stage_leaves_and_halts(rt: HostRuntime) -> Result<(), Fail> {
-    let mut stage = Stage::new(rt.alloc(), 1, 0)?;
-    play(&rt, rt.alloc(), &mut stage, LEAVE_GOES_OUT_ONCE)?;
-    assert!(rt; stage.leave_sent() && stage.is_gone() && stage.taken() == 1);
-    assert!(rt; !stage.state().is_awaiting() && stage.acts().len() == 3);
-    play(&rt, rt.alloc(), &mut stage, HALTED)
+    leave_and_halt(&rt, rt.alloc(), &mut Stage::new(rt.alloc(), 1, 0)?)
 }
 
 const GREETS: &[Row] = &[Row(Given::Types(Shape(0, "hi", 0)), Told::Quiet, "hi")];
@@ -285,41 +316,23 @@ const BEHIND_ITS_JOIN: &[Row] = &[
     Row(Given::Next, Told::Sends(2, Sent::Leave), "hi!"),
 ];
 
-#[test]
-fn a_stage_starts_behind_its_join(rt: HostRuntime) -> Result<(), Fail> {
-    let alloc = rt.alloc();
-    let mut before = Stage::new(alloc, 1, 0)?;
-    play(&rt, alloc, &mut before, GREETS)?;
-    let mut stage = Stage::start_at(alloc, 2, 2, before.doc().try_clone()?)?;
-    assert_eq!(rt;
-        (stage.start(), stage.taken(), stage.start_doc().len()),
-        (3, 3, 2)
-    );
-    play(&rt, alloc, &mut stage, BEHIND_ITS_JOIN)
+// The document of a stage on which a greeting was typed.
+fn greeted(rt: &impl Abort, alloc: Global, stage: &mut Stage) -> Result<Doc, Fail> {
+    play(rt, alloc, stage, GREETS)?;
+    Ok(stage.doc().try_clone()?)
+}
+
+fn go_on_behind_the_join(rt: &impl Abort, alloc: Global, stage: &mut Stage) -> Result<(), Fail> {
+    let begin = (stage.start(), stage.taken(), stage.start_doc().len());
+    assert_eq!(rt; begin, (3, 3, 2));
+    play(rt, alloc, stage, BEHIND_ITS_JOIN)
 }
 
 #[test]
-fn a_play_is_answered_as_its_call(rt: HostRuntime) -> Result<(), Fail> {
+fn a_stage_starts_behind_its_join(rt: HostRuntime) -> Result<(), Fail> {
     let alloc = rt.alloc();
-    let mut stage = Stage::new(alloc, 1, 0)?;
-    assert!(rt;
-        is_played(
-            &mut stage,
-            &Act::Typed(A.op(alloc)?),
-            &ActReply::Typed(Ok(()))
-        )?
-    );
-    let refusal = AskRefusal::BadBase { want: 5, got: 1 };
-    assert!(rt;
-        is_played(
-            &mut stage,
-            &Act::Typed(Shape(5, "a", 0).op(alloc)?),
-            &ActReply::Typed(Err(refusal))
-        )?
-    );
-    assert!(rt; is_played(&mut stage, &Act::Halt, &ActReply::Halt)?);
-    assert!(rt; matches!(stage.acts(), [Act::Typed(_), Act::Halt]));
-    Ok(())
+    let doc = greeted(&rt, alloc, &mut Stage::new(alloc, 1, 0)?)?;
+    go_on_behind_the_join(&rt, alloc, &mut Stage::start_at(alloc, 2, 2, doc)?)
 }
 
 fn is_played(stage: &mut Stage, act: &Act, want: &ActReply) -> Result<bool, AllocError> {
@@ -328,4 +341,32 @@ fn is_played(stage: &mut Stage, act: &Act, want: &ActReply) -> Result<bool, Allo
         (ActReply::Halt, ActReply::Halt) => true,
         _ => false,
     })
+}
+
+fn is_typing_played(
+    alloc: Global,
+    stage: &mut Stage,
+    shape: Shape,
+    want: Result<(), AskRefusal>,
+) -> Result<bool, AllocError> {
+    let act = Act::Typed(shape.op(alloc)?);
+    is_played(stage, &act, &ActReply::Typed(want))
+}
+
+// An operation that fits, one that does not, and a halt.
+fn are_plays_answered(alloc: Global, stage: &mut Stage) -> Result<bool, AllocError> {
+    let refusal = AskRefusal::BadBase { want: 5, got: 1 };
+    Ok(
+        is_typing_played(alloc, stage, A, Ok(()))?
+            && is_typing_played(alloc, stage, Shape(5, "a", 0), Err(refusal))?
+            && is_played(stage, &Act::Halt, &ActReply::Halt)?
+            && matches!(stage.acts(), [Act::Typed(_), Act::Halt]),
+    )
+}
+
+#[test]
+fn a_play_is_answered_as_its_call(rt: HostRuntime) -> Result<(), Fail> {
+    let mut stage = Stage::new(rt.alloc(), 1, 0)?;
+    assert!(rt; are_plays_answered(rt.alloc(), &mut stage)?);
+    Ok(())
 }

@@ -92,6 +92,24 @@ pub fn new_hall(alloc: Global) -> Result<(DeskHall, DeskSeat), Fail>
     }
 }
 
+/// Serves a link: whether these bytes were written on it, and its session ended so.
+pub fn comes_to<R: Wait>(
+    rt: &R,
+    alloc: Global,
+    hall: &DeskHall,
+    seat: &mut DeskSeat,
+    link: &mut BytesLink,
+    written: &str,
+    end: SessionEnd,
+) -> bool
+    requires seat { IsDeskSeat hall.now seat.old }
+    requires is_open { link.old.is_closed ≡ false }
+    ensures { IsDeskSeat hall.now seat.new }
+{
+    let ended = serve_link(rt, alloc, hall, seat, link);
+    ended == end && link.written() == written.as_bytes()
+}
+
 /// Serves the link, and looks at what was written on it and how its session ended.
 pub fn serve<R: Wait + Abort>(
     rt: &R,
@@ -104,11 +122,15 @@ pub fn serve<R: Wait + Abort>(
     ensures { IsDeskSeat hall.now seat.new }
 {
     let mut link = link_of(alloc, dialled.bytes, dialled.reading, 0)?;
-    let end = serve_link(rt, alloc, hall, seat, &mut link);
-    assert_eq!(rt;
-        (dialled.name, link.written()),
-        (dialled.name, dialled.written.as_bytes())
+    let is_so = comes_to(
+        rt,
+        alloc,
+        hall,
+        seat,
+        &mut link,
+        dialled.written,
+        dialled.end,
     );
-    assert_eq!(rt; (dialled.name, end), (dialled.name, dialled.end));
+    assert_eq!(rt; (dialled.name, is_so), (dialled.name, true));
     Ok(())
 }

@@ -2,7 +2,7 @@
 use crate::spelled::Spelled::{self, Cut, Keep, Put};
 use crate::spelled::op;
 use ot_text::{
-    ApplyError, Op, OpBuilder, Text, apply, effect_law, equal_images_law, gaps_law,
+    ApplyError, Op, OpBuilder, Text, apply, effect_law, equal_images_law, gaps_law, map_law,
     norm_append_law, norm_law, normal_form_law, room_law, same_op_law,
 };
 use std::alloc::{AllocError, Global};
@@ -141,6 +141,7 @@ fn laws_of_operations(_rt: HostRuntime) {
     effect_law::<char>();
     equal_images_law();
     gaps_law();
+    map_law::<char, u32>();
     norm_append_law();
     norm_law();
     normal_form_law();

@@ -48,6 +48,7 @@ const ENTRIES: [&str; 5] = [
 fn what_is_read_is_printed_as_it_came(rt: HostRuntime) -> Result<(), Fail> {
     read_back_law();
     one_line_law();
+    read_within_law();
     for line in REQUESTS {
         let Read::Value(request) = read_request(rt.alloc(), line.as_bytes()) else {
             return Err(line.into());
