@@ -77,8 +77,8 @@ ReadsLines read stop end limit before after = IfSome before (λ bytes. (rest : L
 abbrev pub CameWhole : List (List ℕ) → Wires → Type 0
 CameWhole read w = (given : List ℕ) × (w.left_before ≡ in_front given w.rest) × (whole_lines given ≡ read)
 
--- of these replies all but the last were written whole, and then a front of the last, if not all of it: so each line was read and answered
--- only once the reply in front was written whole
+-- of these replies all but the last were written whole, and then a front of the last, if not all of it: so each line was answered only once
+-- the reply in front was written whole
 pub record WroteIntoLast (replies : List (List ℕ)) (old new : Option (List ℕ)) : Type 0 where
   pub earlier : List (List ℕ)
   pub last : List ℕ
