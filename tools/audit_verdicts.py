@@ -23,7 +23,7 @@ def own_lines(said, crate, place):
         path = verdict.group(1)
         if path == start + name if not kind else method.match(path):
             found.append(verdict.group(2))
-        elif f"fn::{name}::" in path:
+        elif f"fn::{name}::" in path or kind and f"fn::{kind}::{name}::" in path:
             found.append(verdict.group(2))
     return found
 
