@@ -1,6 +1,6 @@
 //! Runs of one program.
 
-use crate::told::{print_fates, print_notes};
+use crate::told::print_run;
 use anyhow::Result;
 use child_driver::{Driver, Fed};
 use ot_text::Text;
@@ -36,13 +36,25 @@ pub struct Run {
 /// Feeds the blocks, closes the program, and prints what became of each block, the journal, and how many lives there were.
 pub fn play(rt: &HostRuntime, run: &Run) -> Result<()> {
     let mut driver = driver_of(rt, run)?;
-    let fates = feed_all(rt.alloc(), &mut driver, run.blocks)?;
-    driver.close();
-    println!(rt; "{}", run.name)?;
-    print_fates(rt, &fates)?;
-    print_notes(rt, driver.journal())?;
-    println!(rt; "  lives: {}", driver.lives())?;
+    play_by(rt, run, &mut driver)
+}
+
+// Plays the run by a driver of its program.
+fn play_by<H: Hatch>(rt: &HostRuntime, run: &Run, driver: &mut Driver<H>) -> Result<()> {
+    let fates = feed_and_close(rt.alloc(), driver, run.blocks)?;
+    print_run(rt, run.name, &fates, driver.journal(), driver.lives())?;
     Ok(())
+}
+
+// Feeds the blocks, closes the program, and answers what became of each block.
+fn feed_and_close<H: Hatch>(
+    alloc: Global,
+    driver: &mut Driver<H>,
+    pieces: &[Piece],
+) -> Result<Vec<Fed>, AllocError> {
+    let fates = feed_all(alloc, driver, pieces)?;
+    driver.close();
+    Ok(fates)
 }
 
 // A driver of the program, which was fed nothing yet.

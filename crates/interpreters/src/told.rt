@@ -7,8 +7,22 @@ use child_driver::Fed;
 use std::io;
 use troop_entry::Note;
 
-/// Prints what became of each block.
-pub fn print_fates(rt: &HostRuntime, fates: &[Fed]) -> io::Result<()> {
+/// Prints the name of a run, what became of its blocks, the journal, and how many lives there were.
+pub fn print_run(
+    rt: &HostRuntime,
+    name: &str,
+    fates: &[Fed],
+    notes: &[Note],
+    lives: u64,
+) -> io::Result<()> {
+    println!(rt; "{name}")?;
+    print_fates(rt, fates)?;
+    print_notes(rt, notes)?;
+    println!(rt; "  lives: {lives}")
+}
+
+// Prints what became of each block.
+fn print_fates(rt: &HostRuntime, fates: &[Fed]) -> io::Result<()> {
     for (place, fed) in fates.iter().enumerate() {
         let fate = match fed {
             Fed::Whole => "whole",
@@ -20,8 +34,8 @@ pub fn print_fates(rt: &HostRuntime, fates: &[Fed]) -> io::Result<()> {
     Ok(())
 }
 
-/// Prints the notes of the journal.
-pub fn print_notes(rt: &HostRuntime, notes: &[Note]) -> io::Result<()> {
+// Prints the notes of the journal.
+fn print_notes(rt: &HostRuntime, notes: &[Note]) -> io::Result<()> {
     for note in notes {
         print_note(rt, *note)?;
     }

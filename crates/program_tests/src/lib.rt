@@ -6,6 +6,8 @@ mod held;
 #[cfg(test)]
 mod performed;
 #[cfg(test)]
+mod programs;
+#[cfg(test)]
 mod scripts;
 #[cfg(test)]
 mod served;

@@ -2,15 +2,14 @@
 ghost use Rattle.std.specs.Prelude.{◌≡◌, false, IfOk};
 
 use crate::held::HeldLink;
-use crate::scripts::words_of;
-use pipe_ports::ScriptHatch;
-use std::alloc::Global;
+use crate::programs::{Ending, HeldNet, comes_to, words_of};
+use std::alloc::{AllocError, Global};
 use std::sync::Wait;
 use std::sync::atomic::AtomicU64;
 use std::test::Fail;
 use std::thread::Threads;
-use troop_main::{program_words, troop};
-use troop_ports::{BytesLink, BytesSink, BytesSource, ListDoor, ListNet, ListShelf};
+use troop_main::program_words;
+use troop_ports::{BytesLink, BytesSource, ListDoor, ListNet, ListShelf};
 
 /// Words, what the objects of a run do, and then what it comes to.
 #[derive(Clone, Copy)]
@@ -253,18 +252,24 @@ const EVENINGS: &[Evening] = &[
     },
 ];
 
-// The commands of an evening.
-fn commands(alloc: Global, evening: &Evening) -> Result<BytesSource, Fail> {
+// A reset to so many characters, if it isn't 0.
+fn reset_of(alloc: Global, length: usize) -> Result<Vec<u8>, AllocError> {
     let mut bytes = Vec::new(alloc);
-    if evening.reset > 0 {
+    if length > 0 {
         bytes.extend_from_slice(b"[\"reset\",\"")?;
-        for _ in 0..evening.reset {
+        for _ in 0..length {
             bytes.push(b'x')?;
         }
         bytes.extend_from_slice(b"\"]\n")?;
     }
+    Ok(bytes)
+}
+
+// The commands of an evening.
+fn commands(alloc: Global, evening: &Evening) -> Result<BytesSource, AllocError> {
+    let mut bytes = reset_of(alloc, evening.reset)?;
     bytes.extend_from_slice(evening.commands.as_bytes())?;
-    Ok(BytesSource::new(alloc, &bytes, &[], evening.reads)?)
+    BytesSource::new(alloc, &bytes, &[], evening.reads)
 }
 
 // A shelf with a boot text, a file that is as large as one may be, and one that is larger.
@@ -315,11 +320,7 @@ fn down_link<'c>(
 }
 
 // A net of these two links, at the address `here`.
-fn net<'c>(
-    alloc: Global,
-    evening: &Evening,
-    calls: &'c AtomicU64,
-) -> Result<ListNet<ListDoor<BytesLink>, HeldLink<'c>>, Fail> {
+fn net<'c>(alloc: Global, evening: &Evening, calls: &'c AtomicU64) -> Result<HeldNet<'c>, Fail> {
     let up = up_link(alloc, evening, calls)?;
     let down = down_link(alloc, evening, calls)?;
     let links = vec![in alloc; up, down]?;
@@ -328,33 +329,40 @@ fn net<'c>(
     Ok(ListNet::new(alloc, doors, links, evening.dials)?.standing_at(here))
 }
 
+// Whether the program comes over this net to what the row says.
+fn plays_over<R: Threads + Wait + Sync>(
+    rt: &R,
+    alloc: Global,
+    evening: &Evening,
+    net: &mut HeldNet<'_>,
+) -> Result<bool, Fail> {
+    let ending = Ending {
+        writes: evening.writes,
+        room: 1000,
+        code: evening.code,
+        out: evening.out,
+        err: evening.err,
+        lives: evening.lives,
+    };
+    let mut input = commands(alloc, evening)?;
+    let mut shelf = shelf(alloc)?;
+    comes_to(
+        rt,
+        alloc,
+        evening.words,
+        &mut input,
+        net,
+        &mut shelf,
+        &ending,
+    )
+}
+
 // Whether the evening came to what its row says.
 fn plays<R: Threads + Wait + Sync>(rt: &R, alloc: Global, evening: &Evening) -> Result<bool, Fail> {
     let calls = AtomicU64::new(0);
-    let words = words_of(alloc, evening.words)?;
     let mut net = net(alloc, evening, &calls)?;
-    let mut input = commands(alloc, evening)?;
-    let mut out = BytesSink::new(alloc, 1000, evening.writes)?;
-    let mut err = BytesSink::new(alloc, 100, &[])?;
-    let mut shelf = shelf(alloc)?;
-    let (status, hatch) = troop(
-        rt,
-        alloc,
-        &words,
-        &mut input,
-        &mut out,
-        &mut err,
-        &mut net,
-        ScriptHatch::new(alloc)?,
-        &mut shelf,
-    );
-    Ok(
-        status.code == evening.code
-            && out.bytes() == evening.out.as_bytes()
-            && err.bytes() == evening.err.as_bytes()
-            && came_back(net.retired(), evening)
-            && are_lives(&hatch, evening.lives),
-    )
+    let is_played = plays_over(rt, alloc, evening, &mut net)?;
+    Ok(is_played && came_back(net.retired(), evening))
 }
 
 // Whether so many links came back, and this was written on the first.
@@ -364,16 +372,6 @@ fn came_back(links: &[HeldLink<'_>], evening: &Evening) -> bool {
         [] => &[],
     };
     links.len() == evening.retired && asked == evening.asked.as_bytes()
-}
-
-// Whether the children that were buried took these bytes.
-fn are_lives(hatch: &ScriptHatch, lives: &[&str]) -> bool {
-    let past = hatch.past();
-    past.len() == lives.len()
-        && past
-            .iter()
-            .zip(lives)
-            .all(|(bytes, life)| bytes.as_slice() == life.as_bytes())
 }
 
 #[test]
@@ -533,21 +531,25 @@ const WORDS: &[(&[&str], u8)] = &[
     (&["replay", "--", "cat"], 2),
 ];
 
+// An evening without a link, of these words.
+fn unlinked(words: &'static [&'static str], code: u8) -> Evening {
+    Evening {
+        words,
+        dials: &[1],
+        code,
+        err: if code == 2 {
+            "troop: usage\n"
+        } else {
+            "troop: net fault\n"
+        },
+        ..UNPLAYED
+    }
+}
+
 #[test]
 fn words_say_who_performs(rt: HostRuntime) -> Result<(), Fail> {
     for (words, code) in WORDS {
-        let evening = Evening {
-            words: *words,
-            dials: &[1],
-            code: *code,
-            err: if *code == 2 {
-                "troop: usage\n"
-            } else {
-                "troop: net fault\n"
-            },
-            ..UNPLAYED
-        };
-        assert!(rt; plays(&rt, rt.alloc(), &evening)?);
+        assert!(rt; plays(&rt, rt.alloc(), &unlinked(*words, *code))?);
     }
     Ok(())
 }

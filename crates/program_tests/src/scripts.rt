@@ -1,14 +1,14 @@
 //! What no file shows: the words, the limit of the input, and streams that come in pieces, fail or have no room.
-use pipe_ports::ScriptHatch;
+use crate::held::HeldLink;
+use crate::programs::{Ending, HeldNet, comes_to};
 use replay_run::{
     Outcome, faults_exactly, first_stop_law, replay_upto, replays_exactly, report_number,
     report_parts,
 };
-use std::alloc::Global;
+use std::alloc::{AllocError, Global};
 use std::sync::Wait;
 use std::test::Fail;
 use std::thread::Threads;
-use troop_main::troop;
 use troop_ports::{BytesLink, BytesSink, BytesSource, ListDoor, ListNet, ListShelf};
 
 /// A run's limit and how its streams behave, and then what it comes to.
@@ -182,26 +182,33 @@ const RUNS: [Run; 13] = [
     },
 ];
 
-#[test]
-fn limit_and_streams_decide_how_a_run_ends(rt: HostRuntime) -> Result<(), Fail> {
-    for run in &RUNS {
-        let mut input = BytesSource::new(rt.alloc(), run.script.as_bytes(), run.pieces, run.reads)?;
-        let mut out = BytesSink::new(rt.alloc(), run.room, run.writes)?;
-        let mut err = BytesSink::new(rt.alloc(), 100, &[])?;
-        let status = replay_upto(rt.alloc(), run.limit, &mut input, &mut out, &mut err);
-        assert_eq!(rt; status.code, run.code);
-        assert_eq!(rt; out.bytes(), run.out.as_bytes());
-        assert_eq!(rt; err.bytes(), run.err.as_bytes());
-    }
-    Ok(())
+// Replays what the input gives: the status.
+fn replayed(
+    alloc: Global,
+    limit: u64,
+    input: &mut BytesSource,
+    out: &mut BytesSink,
+    err: &mut BytesSink,
+) -> u8 {
+    replay_upto(alloc, limit, input, out, err).code
 }
 
-pub fn words_of(alloc: Global, words: &[&str]) -> Result<Vec<String>, Fail> {
-    let mut owned = Vec::new(alloc);
-    for word in words {
-        owned.push(String::from_str(alloc, word)?)?;
+// Whether the run comes to what its row says.
+fn ends(alloc: Global, run: &Run) -> Result<bool, AllocError> {
+    let mut input = BytesSource::new(alloc, run.script.as_bytes(), run.pieces, run.reads)?;
+    let mut out = BytesSink::new(alloc, run.room, run.writes)?;
+    let mut err = BytesSink::new(alloc, 100, &[])?;
+    let code = replayed(alloc, run.limit, &mut input, &mut out, &mut err);
+    Ok(code == run.code && out.bytes() == run.out.as_bytes() && err.bytes() == run.err.as_bytes())
+}
+
+#[test]
+fn limit_and_streams_decide_how_a_run_ends(rt: HostRuntime) -> Result<(), Fail> {
+    for (number, run) in RUNS.iter().enumerate() {
+        let ended = ends(rt.alloc(), run)?;
+        assert!(rt; ended, "run {number}");
     }
-    Ok(owned)
+    Ok(())
 }
 
 /// Words, and then their status and what is printed on the output.
@@ -257,40 +264,38 @@ const WORDS: &[(&[&str], u8, &str)] = &[
     (&["jam", "2", "3", "7", "7"], 2, ""),
 ];
 
+// A net of nothing.
+fn empty_net(alloc: Global) -> Result<HeldNet<'static>, AllocError> {
+    let doors = Vec::<ListDoor<BytesLink>>::new(alloc);
+    ListNet::new(alloc, doors, Vec::<HeldLink<'static>>::new(alloc), &[])
+}
+
 // Whether a run of these words on the script has this status, prints this, and says on the error stream nothing else than how it is used.
-fn comes_to<R: Threads + Wait + Sync>(
+fn is_chosen<R: Threads + Wait + Sync>(
     rt: &R,
     alloc: Global,
     words: &[&str],
     code: u8,
     printed: &str,
 ) -> Result<bool, Fail> {
-    let words = words_of(alloc, words)?;
+    let ending = Ending {
+        writes: &[],
+        room: 200,
+        code,
+        out: printed,
+        err: if code == 0 { "" } else { "troop: usage\n" },
+        lives: &[],
+    };
     let mut input = BytesSource::new(alloc, SCRIPT.as_bytes(), &[], &[])?;
-    let mut out = BytesSink::new(alloc, 200, &[])?;
-    let mut err = BytesSink::new(alloc, 100, &[])?;
-    let doors = Vec::<ListDoor<BytesLink>>::new(alloc);
-    let mut net = ListNet::new(alloc, doors, Vec::<BytesLink>::new(alloc), &[])?;
+    let mut net = empty_net(alloc)?;
     let mut shelf = ListShelf::new(alloc, Vec::new(alloc), &[])?;
-    let (status, _hatch) = troop(
-        rt,
-        alloc,
-        &words,
-        &mut input,
-        &mut out,
-        &mut err,
-        &mut net,
-        ScriptHatch::new(alloc)?,
-        &mut shelf,
-    );
-    let line = if code == 0 { "" } else { "troop: usage\n" };
-    Ok(status.code == code && out.bytes() == printed.as_bytes() && err.bytes() == line.as_bytes())
+    comes_to(rt, alloc, words, &mut input, &mut net, &mut shelf, &ending)
 }
 
 #[test]
 fn words_choose_the_command(rt: HostRuntime) -> Result<(), Fail> {
     for (number, (words, code, printed)) in WORDS.iter().enumerate() {
-        let came = comes_to(&rt, rt.alloc(), words, *code, printed)?;
+        let came = is_chosen(&rt, rt.alloc(), words, *code, printed)?;
         assert!(rt; came, "words {number}");
     }
     Ok(())

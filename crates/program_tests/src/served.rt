@@ -1,12 +1,13 @@
 //! Servers by their words: the statuses, the line at the end, and the door that comes back.
 ghost use Rattle.std.specs.Prelude.{◌≡◌, false, IfOk};
 
-use crate::scripts::words_of;
-use pipe_ports::ScriptHatch;
+use crate::held::HeldLink;
+use crate::programs::{Ending, HeldNet, comes_to};
 use std::alloc::Global;
+use std::sync::Wait;
 use std::test::Fail;
-use troop_main::troop;
-use troop_ports::{BytesLink, BytesSink, BytesSource, ListDoor, ListNet, ListShelf};
+use std::thread::Threads;
+use troop_ports::{BytesLink, BytesSource, ListDoor, ListNet, ListShelf};
 
 /// A join, and an edit that changes nothing.
 const LINES: &[u8] =
@@ -218,53 +219,84 @@ fn door(alloc: Global, evening: &Evening) -> Result<ListDoor<BytesLink>, Fail> {
     Ok(ListDoor::new(alloc, links, evening.accepts)?)
 }
 
-// What was written on the first link that came back to the first of these doors.
-fn first_written(doors: &[ListDoor<BytesLink>]) -> &[u8] {
-    let links = match doors {
+// A net of one such door, at the address `here`.
+fn net(alloc: Global, evening: &Evening) -> Result<HeldNet<'static>, Fail> {
+    let doors = vec![in alloc; door(alloc, evening)?]?;
+    let links = Vec::<HeldLink<'static>>::new(alloc);
+    let here = String::from_str(alloc, "here")?;
+    Ok(ListNet::new(alloc, doors, links, evening.listens)?.standing_at(here))
+}
+
+// Whether the program comes over this net to what the row says.
+fn serves_over<R: Threads + Wait + Sync>(
+    rt: &R,
+    alloc: Global,
+    evening: &Evening,
+    net: &mut HeldNet<'_>,
+) -> Result<bool, Fail> {
+    let ending = Ending {
+        writes: evening.writes,
+        room: evening.room,
+        code: evening.code,
+        out: evening.out,
+        err: evening.err,
+        lives: &[],
+    };
+    let mut input = BytesSource::new(alloc, b"[]\n", &[], &[])?;
+    let mut shelf = ListShelf::new(alloc, Vec::new(alloc), &[])?;
+    comes_to(
+        rt,
+        alloc,
+        evening.words,
+        &mut input,
+        net,
+        &mut shelf,
+        &ending,
+    )
+}
+
+// The links that came back to the first of these doors.
+fn retired(doors: &[ListDoor<BytesLink>]) -> &[BytesLink] {
+    match doors {
         [door, ..] => door.retired(),
         [] => &[],
-    };
+    }
+}
+
+// What was written on the first of these links.
+fn first_written(links: &[BytesLink]) -> &[u8] {
     match links {
         [link, ..] => link.written(),
         [] => &[],
     }
 }
 
+// Whether so many doors came back, and to the first of them so many links, and this was written on the first of these.
+fn came_back(doors: &[ListDoor<BytesLink>], evening: &Evening) -> bool {
+    let links = retired(doors);
+    let is_written = match evening.written {
+        Some(written) => first_written(links) == written.as_bytes(),
+        None => true,
+    };
+    doors.len() == evening.shut && links.len() == evening.retired && is_written
+}
+
+// Whether the evening came to what its row says.
+fn serves<R: Threads + Wait + Sync>(
+    rt: &R,
+    alloc: Global,
+    evening: &Evening,
+) -> Result<bool, Fail> {
+    let mut net = net(alloc, evening)?;
+    let is_served = serves_over(rt, alloc, evening, &mut net)?;
+    Ok(is_served && came_back(net.shut_doors(), evening))
+}
+
 #[test]
 fn words_and_faults_decide_how_a_server_ends(rt: HostRuntime) -> Result<(), Fail> {
-    for evening in EVENINGS {
-        let words = words_of(rt.alloc(), evening.words)?;
-        let doors = vec![in rt.alloc(); door(rt.alloc(), evening)?]?;
-        let links = Vec::<BytesLink>::new(rt.alloc());
-        let here = String::from_str(rt.alloc(), "here")?;
-        let mut net = ListNet::new(rt.alloc(), doors, links, evening.listens)?.standing_at(here);
-        let mut input = BytesSource::new(rt.alloc(), b"[]\n", &[], &[])?;
-        let mut out = BytesSink::new(rt.alloc(), evening.room, evening.writes)?;
-        let mut err = BytesSink::new(rt.alloc(), 100, &[])?;
-        let mut shelf = ListShelf::new(rt.alloc(), Vec::new(rt.alloc()), &[])?;
-        let (status, _hatch) = troop(
-            &rt,
-            rt.alloc(),
-            &words,
-            &mut input,
-            &mut out,
-            &mut err,
-            &mut net,
-            ScriptHatch::new(rt.alloc())?,
-            &mut shelf,
-        );
-        assert_eq!(rt; status.code, evening.code);
-        assert_eq!(rt; out.bytes(), evening.out.as_bytes());
-        assert_eq!(rt; err.bytes(), evening.err.as_bytes());
-        assert_eq!(rt; net.shut_doors().len(), evening.shut);
-        let retired = net
-            .shut_doors()
-            .first()
-            .map_or(0, |door| door.retired().len());
-        assert_eq!(rt; retired, evening.retired);
-        if let Some(written) = evening.written {
-            assert_eq!(rt; first_written(net.shut_doors()), written.as_bytes());
-        }
+    for (number, evening) in EVENINGS.iter().enumerate() {
+        let served = serves(&rt, rt.alloc(), evening)?;
+        assert!(rt; served, "evening {number}");
     }
     Ok(())
 }

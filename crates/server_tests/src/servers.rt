@@ -2,9 +2,11 @@
 ghost use Rattle.std.specs.Prelude.{◌≡◌, false, All, IfOk};
 
 use crate::gates::{LateDoor, Turnstile};
-use server_crew::{NoGate, ServeError, serve};
-use std::alloc::Global;
+use server_crew::{Gate, NoGate, ServeError, serve};
+use std::alloc::{AllocError, Global};
+use std::sync::Wait;
 use std::test::Fail;
+use std::thread::Threads;
 use troop_ports::*;
 
 /// A first line that joins.
@@ -16,21 +18,71 @@ const EDIT: &[u8] = b"{\"call\":\"edit\",\"op\":[],\"seen\":0}\n";
 /// A leave without a number.
 const LEAVE: &[u8] = b"{\"call\":\"leave\"}\n";
 
-// So many links, each of which gives these lines, one a read.
-fn links(alloc: Global, count: u64, lines: &[&[u8]]) -> Result<Vec<BytesLink>, Fail>
-    ensures { IfOk result (λ links. All (λ link. link.is_closed ≡ false) links.items) }
-{
+fn bytes_of(alloc: Global, lines: &[&[u8]]) -> Result<Vec<u8>, AllocError> {
     let mut bytes = Vec::new(alloc);
-    let mut pieces = Vec::new(alloc);
     for line in lines {
         bytes.extend_from_slice(line)?;
-        pieces.push(line.len() as u64)?;
     }
+    Ok(bytes)
+}
+
+fn lengths_of(alloc: Global, lines: &[&[u8]]) -> Result<Vec<u64>, AllocError> {
+    let mut lengths = Vec::new(alloc);
+    for line in lines {
+        lengths.push(line.len() as u64)?;
+    }
+    Ok(lengths)
+}
+
+fn open_link(alloc: Global, bytes: &[u8], pieces: &[u64]) -> Result<BytesLink, AllocError>
+    ensures { IfOk result (λ link. link.is_closed ≡ false) }
+{
+    BytesLink::new(alloc, bytes, pieces, &[], 1 << 16, &[])
+}
+
+// So many links, each of which gives these bytes, in these pieces.
+fn links(
+    alloc: Global,
+    count: u64,
+    bytes: &[u8],
+    pieces: &[u64],
+) -> Result<Vec<BytesLink>, AllocError>
+    ensures { IfOk result (λ links. All (λ link. link.is_closed ≡ false) links.items) }
+{
     let mut links = Vec::new(alloc);
     for _ in 0..count {
-        links.push(BytesLink::new(alloc, &bytes, &pieces, &[], 1 << 16, &[])?)?;
+        links.push(open_link(alloc, bytes, pieces)?)?;
     }
     Ok(links)
+}
+
+// A door with so many links, each of which gives these lines, one a read. The accepts of these numbers fail.
+fn door_of(
+    alloc: Global,
+    count: u64,
+    lines: &[&[u8]],
+    fails: &[u64],
+) -> Result<ListDoor<BytesLink>, AllocError> {
+    let bytes = bytes_of(alloc, lines)?;
+    let pieces = lengths_of(alloc, lines)?;
+    ListDoor::new(alloc, links(alloc, count, &bytes, &pieces)?, fails)
+}
+
+// How many rows the log has in the end, or why there is none.
+fn rows_served<D: Door + Send, G: Gate + Sync, R: Threads + Wait + Sync>(
+    rt: &R,
+    alloc: Global,
+    door: &mut D,
+    sessions: Option<u64>,
+    gate: &G,
+) -> Result<u64, ServeError>
+where
+    D::L: Drop + Send,
+{
+    match serve(rt, alloc, door, sessions, gate) {
+        Ok(desk) => Ok(desk.length()),
+        Err(error) => Err(error),
+    }
 }
 
 /// What is played, and what must come of it.
@@ -85,14 +137,25 @@ const CASES: &[Case] = &[
     },
 ];
 
+// Whether the case comes to its rows, and its links came back.
+fn comes_out<R: Threads + Wait + Sync>(
+    rt: &R,
+    alloc: Global,
+    case: &Case,
+) -> Result<bool, AllocError> {
+    let mut door = door_of(alloc, case.links, &[JOIN], case.fails)?;
+    let rows = rows_served(rt, alloc, &mut door, case.sessions, &NoGate);
+    Ok(rows == case.rows && door.retired().len() == case.retired)
+}
+
 #[test]
 fn a_server_ends_with_its_door_its_number_or_a_fault(rt: HostRuntime) -> Result<(), Fail> {
     for case in CASES {
-        let links = links(rt.alloc(), case.links, &[JOIN])?;
-        let mut door = ListDoor::new(rt.alloc(), links, case.fails)?;
-        let served = serve(&rt, rt.alloc(), &mut door, case.sessions, &NoGate);
-        assert_eq!(rt; served.map(|desk| desk.length()), case.rows);
-        assert_eq!(rt; door.retired().len(), case.retired);
+        let is_so = comes_out(&rt, rt.alloc(), case)?;
+        assert_eq!(rt;
+            (case.links, case.sessions, is_so),
+            (case.links, case.sessions, true)
+        );
     }
     Ok(())
 }
@@ -100,25 +163,22 @@ fn a_server_ends_with_its_door_its_number_or_a_fault(rt: HostRuntime) -> Result<
 #[test]
 fn sessions_run_side_by_side(rt: HostRuntime) -> Result<(), Fail> {
     let gate = Turnstile::new(1, 2);
-    let mut door = ListDoor::new(rt.alloc(), links(rt.alloc(), 2, &[JOIN, EDIT])?, &[])?;
-    let served = serve(&rt, rt.alloc(), &mut door, None, &gate);
-    assert_eq!(rt; served.map(|desk| desk.length()), Ok(6));
-    assert!(rt; !gate.has_run_out());
+    let mut door = door_of(rt.alloc(), 2, &[JOIN, EDIT], &[])?;
+    let rows = rows_served(&rt, rt.alloc(), &mut door, None, &gate);
+    assert_eq!(rt; (rows, gate.has_run_out()), (Ok(6), false));
     Ok(())
 }
 
 #[test]
 fn the_door_is_asked_beside_the_sessions(rt: HostRuntime) -> Result<(), Fail> {
     let gate = Turnstile::new(0, 1);
-    let inner = ListDoor::new(rt.alloc(), links(rt.alloc(), 2, &[JOIN])?, &[])?;
     let mut door = LateDoor {
-        inner,
+        inner: door_of(rt.alloc(), 2, &[JOIN], &[])?,
         gate: &gate,
         given: 0,
     };
-    let served = serve(&rt, rt.alloc(), &mut door, None, &gate);
-    assert_eq!(rt; served.map(|desk| desk.length()), Ok(4));
-    assert!(rt; !gate.has_run_out());
+    let rows = rows_served(&rt, rt.alloc(), &mut door, None, &gate);
+    assert_eq!(rt; (rows, gate.has_run_out()), (Ok(4), false));
     Ok(())
 }
 
@@ -138,6 +198,25 @@ fn read_all<L: Link>(alloc: Global, link: &mut L) -> Result<Vec<u8>, Fail>
     Ok(all)
 }
 
+// A performer joins over the link, and leaves.
+fn asks<L: Link>(link: &mut L) -> bool
+    requires { L.Sink.closed link.old ≡ false }
+    ensures { L.Sink.closed link.new ≡ false }
+{
+    let join = write_all(link, JOIN);
+    let leave = write_all(link, LEAVE);
+    (join, leave) == (Written::All, Written::All)
+}
+
+/// What a performer is told that joins and leaves.
+const REPLIES: &[u8] = b"{\"at\":0,\"who\":1}\n{\"at\":1,\"who\":1}\n";
+
+fn is_told<L: Link>(alloc: Global, link: &mut L) -> Result<bool, Fail>
+    requires { L.Source.closed link.old ≡ false }
+{
+    Ok(read_all(alloc, link)?.as_slice() == REPLIES)
+}
+
 #[test]
 fn a_link_over_tcp_is_served_and_closed(rt: HostRuntime) -> Result<(), Fail> {
     let mut net = TcpNet::new(&rt);
@@ -148,15 +227,12 @@ fn a_link_over_tcp_is_served_and_closed(rt: HostRuntime) -> Result<(), Fail> {
     let Dialled::Link(mut near) = net.dial(addr.as_str()) else {
         return Err(Fail::new("no link"));
     };
-    assert_eq!(rt; write_all(&mut near, JOIN), Written::All);
-    assert_eq!(rt; write_all(&mut near, LEAVE), Written::All);
-    let served = serve(&rt, rt.alloc(), &mut door, Some(1), &NoGate);
-    assert_eq!(rt; served.map(|desk| desk.length()), Ok(2));
-    let replies = b"{\"at\":0,\"who\":1}\n{\"at\":1,\"who\":1}\n";
+    assert!(rt; asks(&mut near));
     assert_eq!(rt;
-        read_all(rt.alloc(), &mut near)?.as_slice(),
-        replies.as_slice()
+        rows_served(&rt, rt.alloc(), &mut door, Some(1), &NoGate),
+        Ok(2)
     );
+    assert!(rt; is_told(rt.alloc(), &mut near)?);
     net.retire(near);
     net.shut(door);
     Ok(())

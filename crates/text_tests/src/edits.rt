@@ -5,7 +5,6 @@ use author_marks::{Marks, Run, runs_law};
 use gap_text::GapText;
 use ot_text::{Op, Text};
 use std::alloc::{AllocError, Global};
-use std::process::Abort;
 use std::test::Fail;
 use troop_doc::{Doc, block_law, lines_law};
 
@@ -91,25 +90,70 @@ fn are_runs(found: &[Run], want: &[(u32, u64)]) -> bool {
     found.len() == want.len() && pairs.all(|(run, pair)| (run.who, run.count) == *pair)
 }
 
-fn check_text(rt: &impl Abort, text: &GapText, want: &Text) -> Result<(), Fail> {
-    assert!(rt; text.to_text()?.same(want));
-    let len = text.len();
-    assert!(rt; text.slice(0, len)?.same(want) && len == want.len() && !text.is_empty());
-    assert!(rt; text.at((len - 1) as usize) == want.chars()[(len - 1) as usize]);
-    assert!(rt; text.same(&text.try_clone()?));
-    Ok(())
+// Whether the text, and the slice of all of it, is the one that is wanted.
+fn is_whole(text: &GapText, want: &Text) -> Result<bool, AllocError> {
+    let whole = text.to_text()?;
+    let slice = text.slice(0, text.len())?;
+    Ok(whole.same(want) && slice.same(want))
 }
 
-fn check_marks(rt: &impl Abort, marks: &Marks, want: &[(u32, u64)]) -> Result<(), Fail> {
-    assert!(rt; are_runs(marks.runs()?.as_slice(), want) && !marks.is_empty());
-    assert!(rt; marks.same(&marks.try_clone()?));
-    Ok(())
+// Whether both end with one character, which there is.
+fn end_alike(text: &GapText, want: &Text) -> bool {
+    match (text.len().checked_sub(1), want.chars().last()) {
+        (Some(last), Some(want)) => text.at(last as usize) == *want,
+        _ => false,
+    }
 }
 
-fn check_doc(rt: &impl Abort, doc: &Doc, text: &Text, runs: &[(u32, u64)]) -> Result<(), Fail> {
-    assert!(rt; doc.text()?.same(text) && are_runs(doc.runs()?.as_slice(), runs));
-    assert!(rt; doc.same(&doc.try_clone()?) && doc.len() == text.len());
-    Ok(())
+fn is_text(text: &GapText, want: &Text) -> Result<bool, AllocError> {
+    let is_whole = is_whole(text, want)?;
+    let copy = text.try_clone()?;
+    let is_as_long = text.len() == want.len() && !text.is_empty();
+    Ok(is_whole && is_as_long && end_alike(text, want) && text.same(&copy))
+}
+
+fn are_marks(marks: &Marks, want: &[(u32, u64)]) -> Result<bool, AllocError> {
+    let runs = marks.runs()?;
+    let copy = marks.try_clone()?;
+    Ok(are_runs(runs.as_slice(), want) && !marks.is_empty() && marks.same(&copy))
+}
+
+fn is_written(doc: &Doc, want: &Text) -> Result<bool, AllocError> {
+    let text = doc.text()?;
+    Ok(text.same(want) && doc.len() == want.len())
+}
+
+fn is_marked(doc: &Doc, want: &[(u32, u64)]) -> Result<bool, AllocError> {
+    let runs = doc.runs()?;
+    Ok(are_runs(runs.as_slice(), want))
+}
+
+fn is_copied(doc: &Doc) -> Result<bool, AllocError> {
+    let copy = doc.try_clone()?;
+    Ok(doc.same(&copy))
+}
+
+// Whether the text is the row's behind the row's edit.
+fn takes_text(alloc: Global, text: &mut GapText, row: &Row) -> Result<bool, AllocError> {
+    let op = op(alloc, row.1)?;
+    edit_text(text, &op)?;
+    let want = Text::of(alloc, row.2)?;
+    is_text(text, &want)
+}
+
+// The same of marks.
+fn takes_marks(alloc: Global, marks: &mut Marks, row: &Row) -> Result<bool, AllocError> {
+    let op = op(alloc, row.1)?;
+    edit_marks(marks, &op, row.0)?;
+    are_marks(marks, row.3)
+}
+
+// The same of a document.
+fn takes_doc(alloc: Global, doc: &mut Doc, row: &Row) -> Result<bool, AllocError> {
+    let op = op(alloc, row.1)?;
+    edit_doc(doc, &op, row.0)?;
+    let want = Text::of(alloc, row.2)?;
+    Ok(is_written(doc, &want)? && is_marked(doc, row.3)? && is_copied(doc)?)
 }
 
 #[test]
@@ -117,8 +161,7 @@ fn edits_change_a_text_in_place(rt: HostRuntime) -> Result<(), Fail> {
     let alloc = rt.alloc();
     let mut text = GapText::new(alloc);
     for row in ROWS {
-        edit_text(&mut text, &op(alloc, row.1)?)?;
-        check_text(&rt, &text, &Text::of(alloc, row.2)?)?;
+        assert_eq!(rt; (row.2, takes_text(alloc, &mut text, row)?), (row.2, true));
     }
     Ok(())
 }
@@ -126,15 +169,29 @@ fn edits_change_a_text_in_place(rt: HostRuntime) -> Result<(), Fail> {
 // What is typed in three edits, one behind the other.
 const TYPED: &[&[Spelled]] = &[&[Put("a")], &[Keep(1), Put("bc")], &[Keep(3), Put("z")]];
 
+fn type_in(alloc: Global, text: &mut GapText, parts: &[Spelled]) -> Result<(), AllocError> {
+    let op = op(alloc, parts)?;
+    edit_text(text, &op)
+}
+
+// Whether the text is four characters long, and the two in its middle are these.
+fn has_middle(alloc: Global, text: &GapText, middle: &str) -> Result<bool, AllocError> {
+    if text.len() != 4 {
+        return Ok(false);
+    }
+    let found = text.slice(1, 3)?;
+    let wanted = Text::of(alloc, middle)?;
+    Ok(found.same(&wanted))
+}
+
 #[test]
 fn a_slice_of_what_was_typed(rt: HostRuntime) -> Result<(), Fail> {
     let alloc = rt.alloc();
     let mut text = GapText::new(alloc);
     for parts in TYPED {
-        edit_text(&mut text, &op(alloc, parts)?)?;
+        type_in(alloc, &mut text, parts)?;
     }
-    assert!(rt; text.len() == 4);
-    assert!(rt; text.slice(1, 3)?.same(&Text::of(alloc, "bc")?));
+    assert!(rt; has_middle(alloc, &text, "bc")?);
     Ok(())
 }
 
@@ -144,8 +201,10 @@ fn new_characters_are_marked_with_their_performer(rt: HostRuntime) -> Result<(),
     let alloc = rt.alloc();
     let mut marks = Marks::new(alloc);
     for row in ROWS {
-        edit_marks(&mut marks, &op(alloc, row.1)?, row.0)?;
-        check_marks(&rt, &marks, row.3)?;
+        assert_eq!(rt;
+            (row.2, takes_marks(alloc, &mut marks, row)?),
+            (row.2, true)
+        );
     }
     Ok(())
 }
@@ -155,21 +214,31 @@ fn new_characters_belong_to_their_performer(rt: HostRuntime) -> Result<(), Fail>
     let alloc = rt.alloc();
     let mut doc = Doc::new(alloc);
     for row in ROWS {
-        edit_doc(&mut doc, &op(alloc, row.1)?, row.0)?;
-        check_doc(&rt, &doc, &Text::of(alloc, row.2)?, row.3)?;
+        assert_eq!(rt; (row.2, takes_doc(alloc, &mut doc, row)?), (row.2, true));
     }
     Ok(())
 }
 
+// A document with this text, all of it by one performer.
+fn doc_of(alloc: Global, text: &'static str, who: u32) -> Result<Doc, AllocError> {
+    let op = op(alloc, &[Put(text)])?;
+    let mut doc = Doc::new(alloc);
+    edit_doc(&mut doc, &op, who)?;
+    Ok(doc)
+}
+
+// Whether the documents have one text, by other performers.
+fn differ_in_marks(one: &Doc, other: &Doc) -> Result<bool, AllocError> {
+    let one_text = one.text()?;
+    let other_text = other.text()?;
+    Ok(!one.same(other) && one_text.same(&other_text))
+}
+
 #[test]
 fn documents_of_other_performers_differ(rt: HostRuntime) -> Result<(), Fail> {
-    let alloc = rt.alloc();
-    let hi = op(alloc, &[Put("hi")])?;
-    let mut by_one = Doc::new(alloc);
-    edit_doc(&mut by_one, &hi, 1)?;
-    let mut by_two = Doc::new(alloc);
-    edit_doc(&mut by_two, &hi, 2)?;
-    assert!(rt; !by_one.same(&by_two) && by_one.text()?.same(&by_two.text()?));
+    let by_one = doc_of(rt.alloc(), "hi", 1)?;
+    let by_two = doc_of(rt.alloc(), "hi", 2)?;
+    assert!(rt; differ_in_marks(&by_one, &by_two)?);
     Ok(())
 }
 
@@ -178,7 +247,7 @@ const BD_HUSH: &str = "d1 $ s \"bd\"\n\nhush";
 const TWO_BLOCKS: &str = "a\nb\n \t\r\nc d\n";
 
 // A text, a place of it, and the block round the place.
-const BLOCKS: &[(&str, u64, Option<&str>)] = &[
+const BLOCKS: &[(&'static str, u64, Option<&'static str>)] = &[
     (BD_HUSH, 3, Some("d1 $ s \"bd\"")),
     (BD_HUSH, 11, Some("d1 $ s \"bd\"")),
     (BD_HUSH, 12, None),
@@ -201,17 +270,25 @@ fn is_block(alloc: Global, found: &Option<Text>, want: Option<&str>) -> Result<b
     }
 }
 
+// Whether the block of a row stands round the row's place.
+fn is_block_round(
+    alloc: Global,
+    row: &(&'static str, u64, Option<&'static str>),
+) -> Result<bool, AllocError> {
+    let doc = doc_of(alloc, row.0, 1)?;
+    let found = doc.block_at(row.1)?;
+    is_block(alloc, &found, row.2)
+}
+
 #[test]
 fn a_block_ends_at_blank_lines(rt: HostRuntime) -> Result<(), Fail> {
     lines_law();
     block_law();
     let alloc = rt.alloc();
-    for (text, place, block) in BLOCKS {
-        let mut doc = Doc::new(alloc);
-        edit_doc(&mut doc, &op(alloc, &[Put(text)])?, 1)?;
-        assert!(rt;
-            is_block(alloc, &doc.block_at(*place)?, *block)?,
-            "{place} of {text}"
+    for row in BLOCKS {
+        assert_eq!(rt;
+            (row.0, row.1, is_block_round(alloc, row)?),
+            (row.0, row.1, true)
         );
     }
     Ok(())

@@ -8,16 +8,43 @@ use ot_transform::{
     lengths_law, merge_law, places_law, transform, transform_gaps_law, try_left_of, try_transform,
 };
 use std::alloc::{AllocError, Global};
-use std::process::Abort;
 use std::test::Fail;
 
-// The text that the operation makes of the text.
-fn applied(rt: &impl Abort, alloc: Global, op: &Op, text: &Text) -> Result<Text, Fail> {
+// Whether the operation makes this of the text.
+fn makes(alloc: Global, op: &Op, text: &Text, made: &Text) -> Result<bool, AllocError> {
     match apply(alloc, op, text) {
-        Ok(made) => Ok(made),
-        Err(ApplyError::Memory) => Err(AllocError)?,
-        Err(ApplyError::BadBase { want, got }) => panic!(rt; "base {want} on length {got}"),
+        Ok(found) => Ok(found.same(made)),
+        Err(ApplyError::Memory) => Err(AllocError),
+        Err(ApplyError::BadBase { .. }) => Ok(false),
     }
+}
+
+// Whether the two operations, one behind the other, make this of the text.
+fn make_in_a_row(
+    alloc: Global,
+    ops: (&Op, &Op),
+    text: &Text,
+    made: &Text,
+) -> Result<bool, AllocError> {
+    match apply(alloc, ops.0, text) {
+        Ok(between) => makes(alloc, ops.1, &between, made),
+        Err(ApplyError::Memory) => Err(AllocError),
+        Err(ApplyError::BadBase { .. }) => Ok(false),
+    }
+}
+
+// The two operations as one; want of memory, too, where the second is for another text.
+fn composed(alloc: Global, first: &Op, second: &Op) -> Result<Op, AllocError> {
+    if first.target() != second.base() {
+        return Err(AllocError);
+    }
+    compose(alloc, first, second)
+}
+
+// Whether the operation is the one of these parts.
+fn is_op(alloc: Global, found: &Op, parts: &[Spelled]) -> Result<bool, AllocError> {
+    let wanted = op(alloc, parts)?;
+    Ok(found.same(&wanted))
 }
 
 // Two operations on a text, each moved through the other, and the text that both make of it.
@@ -114,97 +141,173 @@ const ROWS: &[Row] = &[
     },
 ];
 
-// The row's operations transform to what is wanted, and are one operation both ways round.
-fn check(rt: &impl Abort, alloc: Global, row: &Row) -> Result<(), Fail> {
-    let a = op(alloc, row.a)?;
-    let b = op(alloc, row.b)?;
-    assert!(rt; a.base() == b.base());
-    let (left, right) = try_transform(alloc, &a, &b)?;
-    assert!(rt; left.same(&op(alloc, row.left)?), "left on {}", row.text);
-    assert!(rt; right.same(&op(alloc, row.right)?), "right on {}", row.text);
-    assert!(rt;
-        try_left_of(alloc, &a, &b)?.same(&left),
-        "left on {}",
-        row.text
-    );
-    let a_first = check_in_a_row(rt, alloc, row, &a, &right)?;
-    let b_first = check_in_a_row(rt, alloc, row, &b, &left)?;
-    assert!(rt; a_first.same(&b_first), "both ways on {}", row.text);
-    Ok(())
+// The operations moved through each other; want of memory, too, where they are for two texts.
+fn moved_through(alloc: Global, a: &Op, b: &Op) -> Result<(Op, Op), AllocError> {
+    if a.base() != b.base() {
+        return Err(AllocError);
+    }
+    try_transform(alloc, a, b)
 }
 
-// The operations make the row's wanted text, one after the other and composed. Answers them composed.
-fn check_in_a_row(
-    rt: &impl Abort,
-    alloc: Global,
-    row: &Row,
-    first: &Op,
-    second: &Op,
-) -> Result<Op, Fail> {
+// Whether the first one moved through the second, alone, is this.
+fn is_left_of(alloc: Global, a: &Op, b: &Op, left: &Op) -> Result<bool, AllocError> {
+    if a.base() != b.base() {
+        return Ok(false);
+    }
+    let found = try_left_of(alloc, a, b)?;
+    Ok(found.same(left))
+}
+
+// Whether the operations, one after the other and composed, make the row's wanted text.
+fn make_both(alloc: Global, row: &Row, ops: (&Op, &Op), whole: &Op) -> Result<bool, AllocError> {
     let text = Text::of(alloc, row.text)?;
     let both = Text::of(alloc, row.both)?;
-    let made = applied(rt, alloc, second, &applied(rt, alloc, first, &text)?)?;
-    assert!(rt; made.same(&both), "in a row on {}", row.text);
-    assert!(rt; first.target() == second.base());
-    let whole = compose(alloc, first, second)?;
-    assert!(rt;
-        applied(rt, alloc, &whole, &text)?.same(&both),
-        "composed on {}",
-        row.text
-    );
-    Ok(whole)
+    let in_a_row = make_in_a_row(alloc, ops, &text, &both)?;
+    let as_one = makes(alloc, whole, &text, &both)?;
+    Ok(in_a_row && as_one)
+}
+
+// Whether the operations, and behind each the other one moved, are one operation both ways round, and make the row's wanted text.
+fn meet(
+    alloc: Global,
+    row: &Row,
+    a_first: (&Op, &Op),
+    b_first: (&Op, &Op),
+) -> Result<bool, AllocError> {
+    let a_whole = composed(alloc, a_first.0, a_first.1)?;
+    let b_whole = composed(alloc, b_first.0, b_first.1)?;
+    let a_makes = make_both(alloc, row, a_first, &a_whole)?;
+    let b_makes = make_both(alloc, row, b_first, &b_whole)?;
+    Ok(a_makes && b_makes && a_whole.same(&b_whole))
+}
+
+// Whether the row's operations transform to what is wanted, and are one operation both ways round.
+fn is_row(alloc: Global, row: &Row) -> Result<bool, AllocError> {
+    let a = op(alloc, row.a)?;
+    let b = op(alloc, row.b)?;
+    let (left, right) = moved_through(alloc, &a, &b)?;
+    Ok(
+        is_op(alloc, &left, row.left)?
+            && is_op(alloc, &right, row.right)?
+            && is_left_of(alloc, &a, &b, &left)?
+            && meet(alloc, row, (&a, &right), (&b, &left))?,
+    )
 }
 
 #[test]
 fn both_ways_round_make_one_text(rt: HostRuntime) -> Result<(), Fail> {
+    let alloc = rt.alloc();
     for row in ROWS {
-        check(&rt, rt.alloc(), row)?;
+        assert_eq!(rt; (row.text, is_row(alloc, row)?), (row.text, true));
     }
     Ok(())
+}
+
+// The same as `moved_through`, of short operations: want of memory, too, where they are longer.
+fn short_moved_through(alloc: Global, a: &Op, b: &Op) -> Result<(Op, Op), AllocError> {
+    if a.base() != b.base() || a.base() >= 100 || a.inserted() >= 100 || b.inserted() >= 100 {
+        return Err(AllocError);
+    }
+    transform(alloc, a, b)
+}
+
+// Whether what was moved is its own operation moved through the other one gap by gap.
+fn is_gap_by_gap(
+    alloc: Global,
+    found: &Op,
+    own: &Op,
+    other: &Op,
+    own_text_first: bool,
+) -> Result<bool, AllocError> {
+    let own = gaps_of(alloc, own)?;
+    let other = gaps_of(alloc, other)?;
+    let wanted = moved(alloc, &own, &other, own_text_first)?;
+    let image = image_of(alloc, found)?;
+    Ok(image.as_slice() == wanted.as_slice())
+}
+
+// Whether the row's operations move through each other as gap by gap.
+fn is_row_gap_by_gap(alloc: Global, row: &Row) -> Result<bool, AllocError> {
+    let a = op(alloc, row.a)?;
+    let b = op(alloc, row.b)?;
+    let (left, right) = short_moved_through(alloc, &a, &b)?;
+    Ok(is_gap_by_gap(alloc, &left, &a, &b, true)? && is_gap_by_gap(alloc, &right, &b, &a, false)?)
 }
 
 #[test]
 fn the_walk_does_what_is_said_gap_by_gap(rt: HostRuntime) -> Result<(), Fail> {
     let alloc = rt.alloc();
     for row in ROWS {
-        let a = op(alloc, row.a)?;
-        let b = op(alloc, row.b)?;
-        assert!(&rt; a.base() == b.base() && a.base() < 100);
-        assert!(&rt; a.inserted() < 100 && b.inserted() < 100);
-        let (left, right) = transform(alloc, &a, &b)?;
-        let a_gaps = gaps_of(alloc, &a)?;
-        let b_gaps = gaps_of(alloc, &b)?;
-        let left_image = moved(alloc, &a_gaps, &b_gaps, true)?;
-        let right_image = moved(alloc, &b_gaps, &a_gaps, false)?;
-        assert!(&rt;
-            image_of(alloc, &left)?.as_slice() == left_image.as_slice(),
-            "left on {}",
-            row.text
-        );
-        assert!(&rt;
-            image_of(alloc, &right)?.as_slice() == right_image.as_slice(),
-            "right on {}",
-            row.text
+        assert_eq!(rt;
+            (row.text, is_row_gap_by_gap(alloc, row)?),
+            (row.text, true)
         );
     }
     Ok(())
+}
+
+// The edit moved through a run of none.
+fn behind_none(alloc: Global, edit: &Op) -> Result<Op, AllocError> {
+    left_through(alloc, edit, &[])
+}
+
+// The edit moved through a run of one; want of memory, too, where it is for another text or they are long.
+fn behind_one(alloc: Global, edit: &Op, run: &[Op; 2]) -> Result<Op, AllocError> {
+    let reset = &run[0];
+    if edit.base() != reset.base() || edit.inserted() >= 100 || reset.target() >= 100 {
+        return Err(AllocError);
+    }
+    left_through(alloc, edit, &run[..1])
+}
+
+// The same, by the one operation itself.
+fn left_of_one(alloc: Global, edit: &Op, reset: &Op) -> Result<Op, AllocError> {
+    if edit.base() != reset.base() || edit.inserted() >= 100 || reset.target() >= 100 {
+        return Err(AllocError);
+    }
+    left_of(alloc, edit, reset)
+}
+
+// The same through a run of two.
+fn behind_both(alloc: Global, edit: &Op, run: &[Op; 2]) -> Result<Op, AllocError> {
+    let [reset, later] = run;
+    if edit.base() != reset.base() || reset.target() != later.base() {
+        return Err(AllocError);
+    }
+    if edit.inserted() >= 100 || reset.target() >= 100 || later.target() >= 100 {
+        return Err(AllocError);
+    }
+    left_through(alloc, edit, run)
+}
+
+// Whether the edit moves through the first of the run alike by either call, and then as it is spelled.
+fn moves_through_one(alloc: Global, edit: &Op, run: &[Op; 2]) -> Result<bool, AllocError> {
+    let behind = behind_one(alloc, edit, run)?;
+    let left = left_of_one(alloc, edit, &run[0])?;
+    let is_wanted = is_op(alloc, &behind, &[Keep(3), Put("X")])?;
+    Ok(is_wanted && left.same(&behind))
+}
+
+fn moves_through_both(alloc: Global, edit: &Op, run: &[Op; 2]) -> Result<bool, AllocError> {
+    let behind = behind_both(alloc, edit, run)?;
+    is_op(alloc, &behind, &[Keep(2), Put("X"), Keep(1)])
+}
+
+// A text that takes the place of three characters, and a change of it.
+fn reset_and_later(alloc: Global) -> Result<[Op; 2], AllocError> {
+    let reset = op(alloc, &[Put("new"), Cut(3)])?;
+    let later = op(alloc, &[Cut(1), Keep(2), Put("!")])?;
+    Ok([reset, later])
 }
 
 #[test]
 fn an_edit_moves_through_a_run(rt: HostRuntime) -> Result<(), Fail> {
     let alloc = rt.alloc();
     let edit = op(alloc, &[Keep(1), Put("X"), Keep(2)])?;
-    let reset = op(alloc, &[Put("new"), Cut(3)])?;
-    let later = op(alloc, &[Cut(1), Keep(2), Put("!")])?;
-    assert!(&rt; edit.base() == reset.base() && reset.target() == later.base());
-    assert!(&rt; edit.inserted() < 100 && reset.target() < 100 && later.target() < 100);
-    let run = [reset, later];
-    assert!(&rt; left_through(alloc, &edit, &[])?.same(&edit));
-    let behind_reset = left_through(alloc, &edit, &run[..1])?;
-    assert!(&rt; behind_reset.same(&op(alloc, &[Keep(3), Put("X")])?));
-    assert!(&rt; left_of(alloc, &edit, &run[0])?.same(&behind_reset));
-    let behind_both = left_through(alloc, &edit, &run)?;
-    assert!(&rt; behind_both.same(&op(alloc, &[Keep(2), Put("X"), Keep(1)])?));
+    let run = reset_and_later(alloc)?;
+    assert!(&rt; behind_none(alloc, &edit)?.same(&edit));
+    assert!(&rt; moves_through_one(alloc, &edit, &run)?);
+    assert!(&rt; moves_through_both(alloc, &edit, &run)?);
     Ok(())
 }
 
@@ -233,14 +336,19 @@ const IN_A_ROW: &[InARow] = &[
     },
 ];
 
+// Whether the two operations in a row are the one.
+fn are_one(alloc: Global, row: &InARow) -> Result<bool, AllocError> {
+    let first = op(alloc, row.first)?;
+    let second = op(alloc, row.second)?;
+    let whole = composed(alloc, &first, &second)?;
+    is_op(alloc, &whole, row.whole)
+}
+
 #[test]
 fn operations_in_a_row_are_one(rt: HostRuntime) -> Result<(), Fail> {
     let alloc = rt.alloc();
     for row in IN_A_ROW {
-        let first = op(alloc, row.first)?;
-        let second = op(alloc, row.second)?;
-        assert!(&rt; first.target() == second.base());
-        assert!(&rt; compose(alloc, &first, &second)?.same(&op(alloc, row.whole)?));
+        assert!(&rt; are_one(alloc, row)?);
     }
     Ok(())
 }

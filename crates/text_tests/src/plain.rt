@@ -49,8 +49,7 @@ fn put_places(
     Ok(())
 }
 
-// The image of one operation moved through the other, gap by gap: its own text, in front of the other's or behind it;
-// the places that the other's text has in the other's target; and the place behind the gap, if both keep it.
+// The image of one operation moved through the other, gap by gap.
 pub fn moved(
     alloc: Global,
     own: &[Gap],
@@ -60,24 +59,31 @@ pub fn moved(
     let mut image = Vec::new(alloc);
     let mut place: u64 = 0;
     for (mine, theirs) in own.iter().zip(other) {
-        if own_text_first {
-            put_text(&mut image, &mine.text)?;
-        }
-        for _ in &theirs.text {
-            image.push(Item::Old(place))?;
-            place = place.wrapping_add(1);
-        }
-        if !own_text_first {
-            put_text(&mut image, &mine.text)?;
-        }
-        if theirs.keeps {
-            if mine.keeps {
-                image.push(Item::Old(place))?;
-            }
-            place = place.wrapping_add(1);
-        }
+        place = put_gap(&mut image, place, mine, theirs, own_text_first)?;
     }
     Ok(image)
+}
+
+// Of one gap: its own text, in front of the other's or behind it; the places that the other's text has in the other's target; and the
+// place behind the gap, if both keep it. Answers the place behind these.
+fn put_gap(
+    image: &mut Vec<Item>,
+    place: u64,
+    mine: &Gap,
+    theirs: &Gap,
+    own_text_first: bool,
+) -> Result<u64, AllocError> {
+    if own_text_first {
+        put_text(image, &mine.text)?;
+    }
+    let behind_text = put_old(image, place, theirs.text.len() as u64)?;
+    if !own_text_first {
+        put_text(image, &mine.text)?;
+    }
+    if theirs.keeps && mine.keeps {
+        return put_old(image, behind_text, 1);
+    }
+    Ok(behind_text.wrapping_add(u64::from(theirs.keeps)))
 }
 
 // The image of an operation, part by part.
@@ -86,17 +92,22 @@ pub fn image_of(alloc: Global, op: &Op) -> Result<Vec<Item>, AllocError> {
     let mut place: u64 = 0;
     for part in op.parts() {
         match part {
-            Part::Retain(count) => {
-                for _ in 0..*count {
-                    image.push(Item::Old(place))?;
-                    place = place.wrapping_add(1);
-                }
-            }
+            Part::Retain(count) => place = put_old(&mut image, place, *count)?,
             Part::Insert(text) => put_text(&mut image, text.chars())?,
             Part::Delete(count) => place = place.wrapping_add(*count),
         }
     }
     Ok(image)
+}
+
+// So many places from this one on. Answers the place behind them.
+fn put_old(image: &mut Vec<Item>, place: u64, count: u64) -> Result<u64, AllocError> {
+    let mut place = place;
+    for _ in 0..count {
+        image.push(Item::Old(place))?;
+        place = place.wrapping_add(1);
+    }
+    Ok(place)
 }
 
 fn put_text(image: &mut Vec<Item>, text: &[char]) -> Result<(), AllocError> {

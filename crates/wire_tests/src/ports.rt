@@ -1,5 +1,8 @@
 //! What no clause says: what the adapters hand on, and each call once.
+ghost use Rattle.std.specs.Prelude.{◌≡◌, false};
+
 use std::io::{self, ErrorKind, Read, Write};
+use std::process::Abort;
 use std::test::Fail;
 use troop_ports::*;
 
@@ -23,14 +26,21 @@ impl Read for Stumbling {
     }
 }
 
+// What three reads answer, and the first byte that came.
+fn three_reads<S: Source>(source: &mut S) -> ([Got; 3], u8)
+    requires { S.closed source.old ≡ false }
+{
+    let mut buf = [0; 4];
+    let first = source.read(&mut buf);
+    let byte = buf[0];
+    ([first, source.read(&mut buf), source.read(&mut buf)], byte)
+}
+
 #[test]
 fn a_std_source_hands_on_bytes_errors_and_the_end(rt: HostRuntime) {
-    let mut source = StdSource::new(Stumbling { calls: 0 });
-    let mut buf = [0; 4];
-    assert_eq!(rt; source.read(&mut buf), Got::Bytes(1));
-    assert_eq!(rt; buf[0], b'x');
-    assert_eq!(rt; source.read(&mut buf), Got::Failed);
-    assert_eq!(rt; source.read(&mut buf), Got::End);
+    let answers = three_reads(&mut StdSource::new(Stumbling { calls: 0 }));
+    let wanted = ([Got::Bytes(1), Got::Failed, Got::End], b'x');
+    assert_eq!(rt; answers, wanted);
 }
 
 /// A writer that takes two bytes, then an error, then nothing at all.
@@ -54,12 +64,28 @@ impl Write for Stuck {
     }
 }
 
+// What three writes answer.
+fn three_writes<S: Sink>(sink: &mut S) -> [Put; 3]
+    requires { S.closed sink.old ≡ false }
+{
+    [sink.write(b"abc"), sink.write(b"c"), sink.write(b"c")]
+}
+
 #[test]
 fn a_std_sink_hands_on_bytes_and_faults(rt: HostRuntime) {
-    let mut sink = StdSink::new(Stuck { calls: 0 });
-    assert_eq!(rt; sink.write(b"abc"), Put::Took(2));
-    assert_eq!(rt; sink.write(b"c"), Put::Failed);
-    assert_eq!(rt; sink.write(b"c"), Put::Failed);
+    let answers = three_writes(&mut StdSink::new(Stuck { calls: 0 }));
+    assert_eq!(rt; answers, [Put::Took(2), Put::Failed, Put::Failed]);
+}
+
+fn read_once(source: &mut BytesSource, buf: &mut [u8; 4]) -> Got {
+    source.read(buf)
+}
+
+// Looks that reads into one buffer answer so.
+fn read_so(rt: &impl Abort, source: &mut BytesSource, buf: &mut [u8; 4], wants: &[Got]) {
+    for want in wants {
+        assert_eq!(rt; read_once(source, buf), *want);
+    }
 }
 
 #[test]
@@ -74,32 +100,39 @@ fn a_bytes_source_follows_its_script(rt: HostRuntime) -> Result<(), Fail> {
         Got::Bytes(1),
         Got::End,
     ];
-    for want in wants {
-        assert_eq!(rt; source.read(&mut buf), want);
-    }
+    read_so(&rt, &mut source, &mut buf, &wants);
     assert_eq!(rt; buf, *b"hefg");
     Ok(())
+}
+
+// Writes more than there is room for.
+fn write_too_much(sink: &mut BytesSink) -> (Put, [Written; 2]) {
+    let put = sink.write(b"abc");
+    (put, [write_all(sink, b"def"), write_all(sink, b"def")])
 }
 
 #[test]
 fn a_bytes_sink_takes_what_fits_its_room(rt: HostRuntime) -> Result<(), Fail> {
     let mut sink = BytesSink::new(rt.alloc(), 5, &[2])?;
-    assert_eq!(rt; sink.write(b"abc"), Put::Took(3));
-    assert_eq!(rt; write_all(&mut sink, b"def"), Written::Part(0));
-    assert_eq!(rt; write_all(&mut sink, b"def"), Written::Part(2));
+    let wanted = (Put::Took(3), [Written::Part(0), Written::Part(2)]);
+    assert_eq!(rt; write_too_much(&mut sink), wanted);
     assert_eq!(rt; sink.bytes(), b"abcde".as_slice());
     Ok(())
+}
+
+// Reads pieces of two bytes. What stood in the buffer before the end.
+fn read_to_end(source: &mut CalmSource) -> ([Got; 3], [u8; 2]) {
+    let mut buf = [0; 2];
+    let got = [source.read(&mut buf), source.read(&mut buf)];
+    let bytes = buf;
+    ([got[0], got[1], source.read(&mut buf)], bytes)
 }
 
 #[test]
 fn the_calm_forms_never_fail(rt: HostRuntime) -> Result<(), Fail> {
     let mut source = CalmSource::new(rt.alloc(), b"abc")?;
-    let mut buf = [0; 2];
-    assert_eq!(rt; source.read(&mut buf), Got::Bytes(2));
-    assert_eq!(rt; source.read(&mut buf), Got::Bytes(1));
-    assert_eq!(rt; buf, *b"cb");
-    assert_eq!(rt; source.read(&mut buf), Got::End);
-    let mut sink = CalmSink::new();
-    assert_eq!(rt; write_all(&mut sink, b"abc"), Written::All);
+    let wanted = ([Got::Bytes(2), Got::Bytes(1), Got::End], *b"cb");
+    assert_eq!(rt; read_to_end(&mut source), wanted);
+    assert_eq!(rt; write_all(&mut CalmSink::new(), b"abc"), Written::All);
     Ok(())
 }

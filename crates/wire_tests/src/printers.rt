@@ -1,8 +1,9 @@
 //! Each printed form once.
 use std::alloc::{AllocError, Global};
 use std::test::Fail;
-use troop_entry::{Note, Reply};
-use wire_json::{Read, Snapshot, WireReply, read_entry, read_reply, read_request, read_snapshot};
+use troop_doc::Doc;
+use troop_entry::Note;
+use wire_json::{Read, Snapshot, read_entry, read_reply, read_request, read_snapshot};
 use wire_print::*;
 
 // Whether what was printed is this line.
@@ -44,44 +45,98 @@ const ENTRIES: [&str; 5] = [
     "{\"at\":6,\"deed\":\"reset\",\"op\":[\"new\",-4],\"seen\":5,\"who\":2}",
 ];
 
+// Whether the line is a request, and printed as it came.
+fn is_request(alloc: Global, line: &str) -> Result<bool, AllocError> {
+    match read_request(alloc, line.as_bytes()) {
+        Read::Value(request) => Ok(is_line(&print_request(alloc, &request)?, line)),
+        _ => Ok(false),
+    }
+}
+
+// Whether the line is a reply, and printed as it came.
+fn is_reply(alloc: Global, line: &str) -> Result<bool, AllocError> {
+    match read_reply(alloc, line.as_bytes()) {
+        Read::Value(reply) => Ok(is_line(&print_reply(alloc, &reply)?, line)),
+        _ => Ok(false),
+    }
+}
+
+// Whether the line is an entry, and printed as it came.
+fn is_entry(alloc: Global, line: &str) -> Result<bool, AllocError> {
+    match read_entry(alloc, line.as_bytes()) {
+        Read::Value(entry) => Ok(is_line(&print_entry(alloc, &entry)?, line)),
+        _ => Ok(false),
+    }
+}
+
 #[test]
 fn what_is_read_is_printed_as_it_came(rt: HostRuntime) -> Result<(), Fail> {
-    read_back_law();
-    one_line_law();
-    read_within_law();
     for line in REQUESTS {
-        let Read::Value(request) = read_request(rt.alloc(), line.as_bytes()) else {
-            return Err(line.into());
-        };
-        assert!(rt; is_line(&print_request(rt.alloc(), &request)?, line));
+        let is_so = is_request(rt.alloc(), line)?;
+        assert_eq!(rt; (line, is_so), (line, true));
     }
     for line in REPLIES {
-        let Read::Value(reply) = read_reply(rt.alloc(), line.as_bytes()) else {
-            return Err(line.into());
-        };
-        assert!(rt; is_line(&print_reply(rt.alloc(), &reply)?, line));
+        let is_so = is_reply(rt.alloc(), line)?;
+        assert_eq!(rt; (line, is_so), (line, true));
     }
     for line in ENTRIES {
-        let Read::Value(entry) = read_entry(rt.alloc(), line.as_bytes()) else {
-            return Err(line.into());
-        };
-        assert!(rt; is_line(&print_entry(rt.alloc(), &entry)?, line));
+        let is_so = is_entry(rt.alloc(), line)?;
+        assert_eq!(rt; (line, is_so), (line, true));
     }
     Ok(())
 }
 
 #[test]
+fn the_laws_of_printing_are_called() {
+    read_back_law();
+    one_line_law();
+    read_within_law();
+}
+
+// Whether the snapshot is printed as this line.
+fn is_snapshot(alloc: Global, snapshot: &Snapshot, line: &str) -> Result<bool, AllocError> {
+    Ok(is_line(&print_snapshot(alloc, snapshot.at, &snapshot.doc)?, line))
+}
+
+// Whether the document is printed as this line of a desk with seven entries.
+fn is_desk(alloc: Global, doc: &Doc, line: &str) -> Result<bool, AllocError> {
+    Ok(is_line(&print_desk(alloc, 7, doc)?, line))
+}
+
+// Whether the document is printed as this line of a stage whose performer has its text for a name.
+fn is_stage(alloc: Global, doc: &Doc, line: &str) -> Result<bool, AllocError> {
+    let name = doc.text()?;
+    Ok(is_line(&print_stage(alloc, &name, 1, 2, 6, doc)?, line))
+}
+
+const SNAPSHOT: &str = "{\"at\":5,\"marks\":[[2,1],[1,3]],\"text\":\"a\\tb\\u0001\"}";
+
+const DESK: &str = "{\"entries\":7,\"marks\":[[2,1],[1,3]],\"text\":\"a\\tb\\u0001\"}";
+
+const STAGE: &str =
+    "{\"awaits\":2,\"marks\":[[2,1],[1,3]],\"name\":\"a\\tb\\u0001\",\"taken\":6,\"text\":\"a\\tb\\u0001\",\"who\":1}";
+
+// Whether the snapshot is printed as it came, and its document as these lines.
+fn are_documents(alloc: Global, snapshot: &Snapshot) -> Result<bool, AllocError> {
+    Ok(
+        is_snapshot(alloc, snapshot, SNAPSHOT)?
+            && is_desk(alloc, &snapshot.doc, DESK)?
+            && is_stage(alloc, &snapshot.doc, STAGE)?,
+    )
+}
+
+// Whether the line is a snapshot, which is printed in each way.
+fn is_printed(alloc: Global, line: &str) -> Result<bool, AllocError> {
+    match &read_snapshot(alloc, line.as_bytes()) {
+        Read::Value(snapshot) => are_documents(alloc, snapshot),
+        _ => Ok(false),
+    }
+}
+
+#[test]
 fn documents_are_printed_with_their_runs(rt: HostRuntime) -> Result<(), Fail> {
-    let line = "{\"at\":5,\"marks\":[[2,1],[1,3]],\"text\":\"a\\tb\\u0001\"}";
-    let Read::Value(Snapshot { at, doc }) = read_snapshot(rt.alloc(), line.as_bytes()) else {
-        return Err("a snapshot".into());
-    };
-    assert!(rt; is_line(&print_snapshot(rt.alloc(), at, &doc)?, line));
-    let line = "{\"entries\":7,\"marks\":[[2,1],[1,3]],\"text\":\"a\\tb\\u0001\"}";
-    assert!(rt; is_line(&print_desk(rt.alloc(), 7, &doc)?, line));
-    let line =
-        "{\"awaits\":2,\"marks\":[[2,1],[1,3]],\"name\":\"a\\tb\\u0001\",\"taken\":6,\"text\":\"a\\tb\\u0001\",\"who\":1}";
-    assert!(rt; is_line(&print_stage(rt.alloc(), &doc.text()?, 1, 2, 6, &doc)?, line));
+    let is_so = is_printed(rt.alloc(), SNAPSHOT)?;
+    assert!(rt; is_so);
     Ok(())
 }
 
@@ -97,22 +152,32 @@ const NOTES: [Note; 5] = [
     Note::Unclosed { life: 3 },
 ];
 
+// A life of some bytes, and one of none.
+fn two_lives(alloc: Global) -> Result<Vec<Vec<u8>>, AllocError> {
+    let life = Vec::from_slice(alloc, b"go\n\xff")?;
+    Ok(Vec::from_array(alloc, [life, Vec::new(alloc)])?)
+}
+
+fn are_lives(alloc: Global, line: &str) -> Result<bool, AllocError> {
+    Ok(is_line(&print_lives(alloc, 1, &two_lives(alloc)?)?, line))
+}
+
+fn is_journal(alloc: Global, line: &str) -> Result<bool, AllocError> {
+    Ok(is_line(&print_journal(alloc, 1, &NOTES)?, line))
+}
+
+fn is_blank(alloc: Global, line: &str) -> Result<bool, AllocError> {
+    Ok(is_line(&print_blank(alloc, 7)?, line))
+}
+
 #[test]
 fn lives_are_printed_in_hexadecimal_and_notes_as_arrays(rt: HostRuntime) -> Result<(), Fail> {
-    let mut lives = Vec::new(rt.alloc());
-    lives.push(Vec::from_slice(rt.alloc(), b"go\n\xff")?)?;
-    lives.push(Vec::new(rt.alloc()))?;
-    let line = "{\"lives\":[\"676f0aff\",\"\"],\"who\":1}";
-    assert!(rt; is_line(&print_lives(rt.alloc(), 1, &lives)?, line));
+    let alloc = rt.alloc();
+    assert!(rt; are_lives(alloc, "{\"lives\":[\"676f0aff\",\"\"],\"who\":1}")?);
     let line =
         "{\"journal\":[[\"born\",1,2],[\"bootcut\",1,3],[\"skipped\",2],[\"cut\",2,4,5],[\"unclosed\",3]],\"who\":1}";
-    assert!(rt; is_line(&print_journal(rt.alloc(), 1, &NOTES)?, line));
-    assert!(rt;
-        is_line(
-            &print_blank(rt.alloc(), 7)?,
-            "{\"no\":\"blank\",\"place\":7}"
-        )
-    );
+    assert!(rt; is_journal(alloc, line)?);
+    assert!(rt; is_blank(alloc, "{\"no\":\"blank\",\"place\":7}")?);
     Ok(())
 }
 
@@ -134,12 +199,20 @@ const JAM: JamSummary = JamSummary {
     performers: 4,
 };
 
+fn is_drill(alloc: Global, line: &str) -> Result<bool, AllocError> {
+    Ok(is_line(&print_drill(alloc, &DRILL)?, line))
+}
+
+fn is_jam(alloc: Global, line: &str) -> Result<bool, AllocError> {
+    Ok(is_line(&print_jam(alloc, &JAM)?, line))
+}
+
 #[test]
 fn summaries_are_printed_key_by_key(rt: HostRuntime) -> Result<(), Fail> {
     let line =
         "{\"blocks\":1,\"entries\":9,\"equal\":true,\"lives\":2,\"notes\":3,\"seed\":18446744073709551615,\"steps\":50,\"unfit\":4}";
-    assert!(rt; is_line(&print_drill(rt.alloc(), &DRILL)?, line));
+    assert!(rt; is_drill(rt.alloc(), line)?);
     let line = "{\"calls\":20,\"entries\":164,\"equal\":true,\"performers\":4}";
-    assert!(rt; is_line(&print_jam(rt.alloc(), &JAM)?, line));
+    assert!(rt; is_jam(rt.alloc(), line)?);
     Ok(())
 }

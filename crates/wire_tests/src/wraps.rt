@@ -10,44 +10,50 @@ fn wrapped(alloc: Global, lang: Lang, text: &str) -> Result<Vec<u8>, Fail> {
     Ok(wrap(alloc, lang, &text)?)
 }
 
-#[test]
-fn a_ghci_block_is_one_command(rt: HostRuntime) -> Result<(), Fail> {
-    let bytes = wrapped(rt.alloc(), Lang::Ghci, "d1 $ s \"bd\"")?;
-    assert_eq!(rt; bytes.as_slice(), b":{\nd1 $ s \"bd\"\n:}\n".as_slice());
-    assert_eq!(rt; first_command(Lang::Ghci, &bytes), Some(18));
-    assert_eq!(rt; first_command(Lang::Ghci, &bytes[..17]), None);
-    Ok(())
+/// A block's text in its language, and the bytes for its interpreter.
+struct Row(Lang, &'static str, &'static [u8]);
+
+const WRAPS: &[Row] = &[
+    // A GHCi block is one command.
+    Row(Lang::Ghci, "d1 $ s \"bd\"", COMMAND),
+    // One with brace lines goes as plain lines.
+    Row(Lang::Ghci, "a\n :} \nb", b"a\n :} \nb\n"),
+    Row(Lang::Ghci, "\t:{ \nb\n:}\t", b"\t:{ \nb\n:}\t\n"),
+    // An empty block, and one that ends with a line feed.
+    Row(Lang::Lines, "", b"\n"),
+    Row(Lang::Ghci, "", b":{\n\n:}\n"),
+    Row(Lang::Lines, "a\n", b"a\n"),
+];
+
+const COMMAND: &[u8] = b":{\nd1 $ s \"bd\"\n:}\n";
+
+const UNENDED: &[u8] = b":{\nd1 $ s \"bd\"\n:}";
+
+fn is_wrapped(alloc: Global, row: &Row) -> Result<bool, Fail> {
+    Ok(wrapped(alloc, row.0, row.1)?.as_slice() == row.2)
 }
 
 #[test]
-fn a_block_with_brace_lines_goes_as_plain_lines(rt: HostRuntime) -> Result<(), Fail> {
-    let alloc = rt.alloc();
-    let bytes = wrapped(alloc, Lang::Ghci, "a\n :} \nb")?;
-    assert_eq!(rt; bytes.as_slice(), b"a\n :} \nb\n".as_slice());
-    let bytes = wrapped(alloc, Lang::Ghci, "\t:{ \nb\n:}\t")?;
-    assert_eq!(rt; bytes.as_slice(), b"\t:{ \nb\n:}\t\n".as_slice());
-    assert_eq!(rt;
-        first_command(Lang::Ghci, b":{\na:}b\n :}\t\nc\n"),
-        Some(13)
-    );
-    Ok(())
-}
-
-#[test]
-fn an_empty_block_and_one_that_ends_with_a_line_feed(rt: HostRuntime) -> Result<(), Fail> {
-    let alloc = rt.alloc();
-    assert_eq!(rt;
-        wrapped(alloc, Lang::Lines, "")?.as_slice(),
-        b"\n".as_slice()
-    );
-    assert_eq!(rt;
-        wrapped(alloc, Lang::Ghci, "")?.as_slice(),
-        b":{\n\n:}\n".as_slice()
-    );
-    assert_eq!(rt;
-        wrapped(alloc, Lang::Lines, "a\n")?.as_slice(),
-        b"a\n".as_slice()
-    );
+fn blocks_are_wrapped_for_their_interpreters(rt: HostRuntime) -> Result<(), Fail> {
+    for row in WRAPS {
+        let is_so = is_wrapped(rt.alloc(), row)?;
+        assert_eq!(rt; (row.1, is_so), (row.1, true));
+    }
     wrap_law();
     Ok(())
+}
+
+// Where the first command of bytes for GHCi ends.
+fn first_end(bytes: &[u8]) -> Option<usize> {
+    first_command(Lang::Ghci, bytes)
+}
+
+#[test]
+fn the_first_command_ends_behind_its_brace_line(rt: HostRuntime) {
+    let ends = [
+        first_end(COMMAND),
+        first_end(UNENDED),
+        first_end(b":{\na:}b\n :}\t\nc\n"),
+    ];
+    assert_eq!(rt; ends, [Some(18), None, Some(13)]);
 }

@@ -5,6 +5,6 @@ use Rattle.server_tests.proofs.servers.links.Goals as goal
 
 pub loop-preserved : goal.loop-preserved
 loop-preserved c =
-    let items : c.push-in-loop.new.self.items ≡ c.loop.links.items ++ c.in_ok-new.field-0 ∷ [] = search rules in
-    rw items (All-append (λ (link : Wire). link.is_closed ≡ false) c.loop.links.items (c.in_ok-new.field-0 ∷ []) c.loop.invariant
-    (All-cons (λ (link : Wire). link.is_closed ≡ false) c.in_ok-new.field-0 [] c.in_ok-new.ensures.is_open (All-nil (λ (link : Wire). link.is_closed ≡ false))))
+    let items : c.push.new.self.items ≡ c.loop.links.items ++ c.in_ok-open_link.field-0 ∷ [] = search rules in
+    rw items (All-append (λ (link : Wire). link.is_closed ≡ false) c.loop.links.items (c.in_ok-open_link.field-0 ∷ []) c.loop.invariant
+    (All-cons (λ (link : Wire). link.is_closed ≡ false) c.in_ok-open_link.field-0 [] c.in_ok-open_link.ensures (All-nil (λ (link : Wire). link.is_closed ≡ false))))
