@@ -39,13 +39,23 @@ def lines_of(values):
 
 # ---- Processes.
 
+def fields_of(process):
+    """What Linux tells of a process behind its name: its state, its parent's number, and so on; nothing where it is gone."""
+    try:
+        with open(f"/proc/{process}/stat", encoding="utf-8", errors="replace") as file:
+            return file.read().rsplit(")", 1)[1].split()
+    except (FileNotFoundError, ProcessLookupError):
+        return []
+
+
 class Program:
     """The program's processes: each is started with words, and ends by itself, or is ended at the end of its scene."""
     path = PROGRAM
     started = []
 
     def __init__(self, *words):
-        self.process = subprocess.Popen([Program.path, *words], stdin=subprocess.PIPE, stdout=subprocess.PIPE, stderr=subprocess.PIPE)
+        # Without buffers, since `communicate` doesn't look into the one of what was read ahead behind a line.
+        self.process = subprocess.Popen([Program.path, *words], bufsize=0, stdin=subprocess.PIPE, stdout=subprocess.PIPE, stderr=subprocess.PIPE)
         Program.started.append(self)
 
     def give(self, *commands):
@@ -66,9 +76,13 @@ class Program:
         return self.process.returncode, out.decode(), err.decode()
 
     def processor_seconds(self):
-        with open(f"/proc/{self.process.pid}/stat", encoding="ascii") as file:
-            fields = file.read().rsplit(")", 1)[1].split()
+        fields = fields_of(self.process.pid)
         return (int(fields[11]) + int(fields[12])) / os.sysconf("SC_CLK_TCK")
+
+    def has_interpreter(self):
+        """Whether a process that it started still runs."""
+        states = [fields[:2] for fields in map(fields_of, filter(str.isdigit, os.listdir("/proc"))) if fields]
+        return any(parent == str(self.process.pid) and state not in "ZX" for state, parent in states)
 
     @staticmethod
     def end_all():
@@ -171,14 +185,17 @@ def dying_interpreter():
     with served(1) as (address, _):
         player = perform(address, interpreter=("sh",))
         player.give(["edit", ["echo one\n\nexit 7\n\necho two\n\necho three\n"]], ["until", 2], ["eval", 0], ["until", 3], ["eval", 10], ["until", 4])
-        time.sleep(1)
+        expect(player.process.stdout.readline(), b"one\n")
+        give_up = time.monotonic() + PATIENCE
+        while player.has_interpreter():
+            assert time.monotonic() < give_up, "the shell doesn't end"
+            time.sleep(0.02)
         player.give(["eval", 18], ["until", 5])
-        time.sleep(0.5)
         status, out, err = player.end(["eval", 28], ["until", 6])
     expect((status, err), (0, ""))
     journal = json.loads(out.splitlines()[-1])["journal"]
     expect(journal, [["born", 1, 2], ["cut", 1, 4, 0], ["born", 2, 5]])
-    expect([text for text in out.splitlines() if not text.startswith("{")], ["one", "three"])
+    expect([text for text in out.splitlines() if not text.startswith("{")], ["three"])
 
 
 def no_such_interpreter():
