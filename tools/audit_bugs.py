@@ -95,16 +95,15 @@ class Bug:
 
 
 def without(text, names):
-    """A file of proofs without the declarations of these names."""
+    """A file of proofs without the declarations of these names, and without the lines `line N`: each line keeps its number."""
     kept, leaving = [], False
-    for line in text.split("\n"):
-        head = re.match(r"(?:pub )?([^\s:]+) :", line)
+    for number, line in enumerate(text.split("\n"), 1):
+        head = re.match(r"(?:abbrev )?(?:pub )?([^\s:]+) :", line)
         if head:
             leaving = head.group(1) in names
         elif not line.strip():
             leaving = False
-        if not leaving:
-            kept.append(line)
+        kept.append("" if leaving or f"line {number}" in names else line)
     return "\n".join(kept)
 
 

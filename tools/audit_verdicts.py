@@ -48,8 +48,10 @@ def judged(said, bug):
     hand = by_hand(lines, bug)
     if hand:
         return hand
-    if any("it calls" in line or "wait" in line for line in told):
+    if any("it calls" in line or "wait" in line or "which has no proof" in line for line in told):
         return UNSURE, "it waits for a function that isn't proved"
+    if any("expected a measure" in line for line in told):
+        return UNSURE, "the measure of a loop is left out"
     if any("not admit" in line for line in told):
         return UNSURE, "; ".join(told)[:200]
     return REFUSED, "; ".join(told)[:200]
@@ -91,7 +93,9 @@ def misfits(said, bug):
         at = ERROR_AT.match(line)
         if not at or not at.group(4).startswith("error") or not any(f"/{name}/" in at.group(1) for _, _, name in bug.functions):
             continue
-        for name in re.findall(r"error: `([^`]*)`", at.group(4)):
+        # What a line takes in from another module may be gone, and the line has no name of its own.
+        taken_in = [f"line {at.group(2)}"] if at.group(4).startswith("error: module ") else []
+        for name in re.findall(r"error: `([^`]*)`", at.group(4)) or taken_in:
             left = bug.drops.setdefault(at.group(1), set())
             more = more or name not in left
             left.add(name)
