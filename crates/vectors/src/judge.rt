@@ -1,13 +1,13 @@
 //! What comes of a vector's operations, held against what the vector says.
 
-use crate::vector::Vector;
+use crate::vector::{Chained, Met, Vector};
 use ot_text::{ApplyError, Op, Text, apply};
 use ot_transform::{compose, try_transform};
 use std::alloc::{AllocError, Global};
 use std::fmt;
 
 /// Where a vector and the operations differ.
-#[derive(Clone, Copy, Debug, PartialEq, Eq)]
+#[derive(Clone, Copy)]
 pub enum Fault {
     /// Operations that are to meet are for other texts.
     Base,
@@ -27,81 +27,87 @@ pub enum Fault {
 
 impl fmt::Display for Fault {
     fn fmt<W: fmt::Write>(&self, f: &mut fmt::Formatter<W>) -> fmt::Result {
-        match self {
-            Fault::Base => write!(f, "operations for other texts"),
-            Fault::Spelling => write!(f, "the other spelling"),
-            Fault::FirstMoved => write!(f, "the first one moved"),
-            Fault::SecondMoved => write!(f, "the second one moved"),
-            Fault::Merged => write!(f, "the text of both"),
-            Fault::Composed => write!(f, "the composition"),
-            Fault::After => write!(f, "the text behind the composition"),
-        }
+        f.write_str(match self {
+            Fault::Base => "operations for other texts",
+            Fault::Spelling => "the other spelling",
+            Fault::FirstMoved => "the first one moved",
+            Fault::SecondMoved => "the second one moved",
+            Fault::Merged => "the text of both",
+            Fault::Composed => "the composition",
+            Fault::After => "the text behind the composition",
+        })
     }
 }
 
 /// The first place where a vector and the operations differ, if there is one.
 pub fn judge(alloc: Global, vector: &Vector) -> Result<Option<Fault>, AllocError> {
-    if !vector.spelled.same(&vector.first) {
+    if !vector.spelled.same(&vector.met.first) {
         return Ok(Some(Fault::Spelling));
     }
-    match judge_moved(alloc, vector)? {
+    match judge_met(alloc, &vector.met)? {
         Some(fault) => Ok(Some(fault)),
-        None => judge_composed(alloc, vector),
+        None => judge_chained(alloc, &vector.met, &vector.chained),
     }
 }
 
 // The same of the two operations moved through each other.
-fn judge_moved(alloc: Global, vector: &Vector) -> Result<Option<Fault>, AllocError> {
-    if vector.first.base() != vector.second.base() {
+fn judge_met(alloc: Global, met: &Met) -> Result<Option<Fault>, AllocError> {
+    if met.first.base() != met.second.base() {
         return Ok(Some(Fault::Base));
     }
-    let (first, second) = try_transform(alloc, &vector.first, &vector.second)?;
-    if !first.same(&vector.first_moved) {
+    let (first, second) = try_transform(alloc, &met.first, &met.second)?;
+    judge_moved(alloc, met, &first, &second)
+}
+
+// The same of what the two operations became.
+fn judge_moved(
+    alloc: Global,
+    met: &Met,
+    first: &Op,
+    second: &Op,
+) -> Result<Option<Fault>, AllocError> {
+    if !first.same(&met.first_moved) {
         return Ok(Some(Fault::FirstMoved));
     }
-    if !second.same(&vector.second_moved) {
+    if !second.same(&met.second_moved) {
         return Ok(Some(Fault::SecondMoved));
     }
-    let one_way = is_made(
-        alloc,
-        &[&vector.first, &second],
-        &vector.text,
-        &vector.merged,
-    )?;
-    let other_way = is_made(
-        alloc,
-        &[&vector.second, &first],
-        &vector.text,
-        &vector.merged,
-    )?;
-    Ok(if one_way && other_way {
-        None
-    } else {
-        Some(Fault::Merged)
-    })
+    let one_way = is_made(alloc, &[&met.first, second], &met.text, &met.merged)?;
+    let other_way = is_made(alloc, &[&met.second, first], &met.text, &met.merged)?;
+    Ok(fault_unless(one_way && other_way, Fault::Merged))
 }
 
 // The same of the first operation and the next as one.
-fn judge_composed(alloc: Global, vector: &Vector) -> Result<Option<Fault>, AllocError> {
-    if vector.first.target() != vector.next.base() {
+fn judge_chained(alloc: Global, met: &Met, chained: &Chained) -> Result<Option<Fault>, AllocError> {
+    if met.first.target() != chained.next.base() {
         return Ok(Some(Fault::Base));
     }
-    let composed = compose(alloc, &vector.first, &vector.next)?;
-    if !composed.same(&vector.composed) {
+    let composed = compose(alloc, &met.first, &chained.next)?;
+    judge_composed(alloc, met, chained, &composed)
+}
+
+// The same of the composition.
+fn judge_composed(
+    alloc: Global,
+    met: &Met,
+    chained: &Chained,
+    composed: &Op,
+) -> Result<Option<Fault>, AllocError> {
+    if !composed.same(&chained.composed) {
         return Ok(Some(Fault::Composed));
     }
     let in_two = is_made(
         alloc,
-        &[&vector.first, &vector.next],
-        &vector.text,
-        &vector.after,
+        &[&met.first, &chained.next],
+        &met.text,
+        &chained.after,
     )?;
-    let in_one = is_made(alloc, &[&composed], &vector.text, &vector.after)?;
-    Ok(if in_two && in_one {
-        None
-    } else {
-        Some(Fault::After)
-    })
+    let in_one = is_made(alloc, &[composed], &met.text, &chained.after)?;
+    Ok(fault_unless(in_two && in_one, Fault::After))
+}
+
+fn fault_unless(is_so: bool, fault: Fault) -> Option<Fault> {
+    if is_so { None } else { Some(fault) }
 }
 
 // Whether the operations, one behind the other, make this of a text.

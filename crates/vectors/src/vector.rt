@@ -5,22 +5,36 @@ use serde_json::Value;
 use std::alloc::{AllocError, Global};
 
 /// Operations on a text, and what comes of them.
-#[derive(Debug, Drop)]
+#[derive(Drop)]
 pub struct Vector {
     /// What the vector shows.
     pub name: String,
-    /// The text that the first and the second operation are for.
+    /// The first operation as its parts are spelled in another way.
+    pub spelled: Op,
+    /// Two operations that meet on one text.
+    pub met: Met,
+    /// The first of them, and an operation behind it.
+    pub chained: Chained,
+}
+
+/// Two operations for one text, and what comes of both.
+#[derive(Drop)]
+pub struct Met {
+    /// The text that the two are for.
     pub text: Text,
     pub first: Op,
     pub second: Op,
-    /// The first operation as its parts are spelled in another way.
-    pub spelled: Op,
     /// The first operation moved through the second, as the first of the two.
     pub first_moved: Op,
     /// The second operation moved through the first.
     pub second_moved: Op,
     /// The text behind both.
     pub merged: Text,
+}
+
+/// An operation behind the first one, and what comes of the two.
+#[derive(Drop)]
+pub struct Chained {
     /// An operation on what the first one makes of the text.
     pub next: Op,
     /// The first operation and then the next as one.
@@ -29,133 +43,180 @@ pub struct Vector {
     pub after: Text,
 }
 
+// Why a line gives no vector.
+#[derive(Clone, Copy)]
+enum ReadError {
+    Memory,
+    NoVector,
+}
+
+impl From<AllocError> for ReadError {
+    fn from(_error: AllocError) -> ReadError {
+        ReadError::Memory
+    }
+}
+
 impl Vector {
     /// The vector of a line, if it is one and its operations are normal.
     pub fn read(alloc: Global, line: &str) -> Result<Option<Vector>, AllocError> {
-        match Value::from_str(alloc, line) {
-            Ok(value) => read_vector(alloc, &value),
-            Err(error) => {
-                if error.is_memory() {
-                    Err(AllocError)
-                } else {
-                    Ok(None)
-                }
-            }
+        match read_line(alloc, line) {
+            Ok(vector) => Ok(Some(vector)),
+            Err(ReadError::NoVector) => Ok(None),
+            Err(ReadError::Memory) => Err(AllocError),
         }
+    }
+}
+
+// The vector of a line.
+fn read_line(alloc: Global, line: &str) -> Result<Vector, ReadError> {
+    match Value::from_str(alloc, line) {
+        Ok(value) => read_vector(alloc, &value),
+        Err(error) => Err(if error.is_memory() {
+            ReadError::Memory
+        } else {
+            ReadError::NoVector
+        }),
     }
 }
 
 // The vector of an object.
-fn read_vector(alloc: Global, object: &Value) -> Result<Option<Vector>, AllocError> {
-    let (Some(name), Some(spelled)) = (object.get("name"), object.get("spelled")) else {
-        return Ok(None);
-    };
-    let (Some(name), Some(spelled)) = (name.as_str(), read_op(alloc, spelled)?) else {
-        return Ok(None);
-    };
-    let (Some(text), Some(merged), Some(after)) = (
-        text_field(alloc, object, "text")?,
-        text_field(alloc, object, "merged")?,
-        text_field(alloc, object, "after")?,
-    ) else {
-        return Ok(None);
-    };
-    let (Some(first), Some(second), Some(first_moved), Some(second_moved)) = (
-        op_field(alloc, object, "first")?,
-        op_field(alloc, object, "second")?,
-        op_field(alloc, object, "first_moved")?,
-        op_field(alloc, object, "second_moved")?,
-    ) else {
-        return Ok(None);
-    };
-    let (Some(next), Some(composed)) = (
-        op_field(alloc, object, "next")?,
-        op_field(alloc, object, "composed")?,
-    ) else {
-        return Ok(None);
-    };
-    Ok(Some(Vector {
-        name: String::from_str(alloc, name)?,
-        text,
-        first,
-        second,
+fn read_vector(alloc: Global, object: &Value) -> Result<Vector, ReadError> {
+    let name = String::from_str(alloc, str_field(object, "name")?)?;
+    let spelled = spelled_field(alloc, object)?;
+    let chained = read_chained(alloc, object)?;
+    let met = read_met(alloc, object)?;
+    Ok(Vector {
+        name,
         spelled,
-        first_moved,
-        second_moved,
-        merged,
-        next,
-        composed,
-        after,
-    }))
-}
-
-// The text at a key.
-fn text_field(alloc: Global, object: &Value, key: &str) -> Result<Option<Text>, AllocError> {
-    match object.get(key).and_then(Value::as_str) {
-        Some(string) => Ok(Some(Text::of(alloc, string)?)),
-        None => Ok(None),
-    }
-}
-
-// The operation at a key, if its parts stand there as the normal ones.
-fn op_field(alloc: Global, object: &Value, key: &str) -> Result<Option<Op>, AllocError> {
-    let Some(value) = object.get(key) else {
-        return Ok(None);
-    };
-    let Some(op) = read_op(alloc, value)? else {
-        return Ok(None);
-    };
-    Ok(if is_normal(alloc, value, &op)? {
-        Some(op)
-    } else {
-        None
+        met,
+        chained,
     })
 }
 
-// Whether the elements are just the operation's parts.
-fn is_normal(alloc: Global, value: &Value, op: &Op) -> Result<bool, AllocError> {
-    let Some(items) = value.as_array() else {
-        return Ok(false);
-    };
-    if items.len() != op.parts().len() {
-        return Ok(false);
+fn read_met(alloc: Global, object: &Value) -> Result<Met, ReadError> {
+    let (text, merged) = two_texts(alloc, object, "text", "merged")?;
+    let (first, second) = two_ops(alloc, object, "first", "second")?;
+    let (first_moved, second_moved) = two_ops(alloc, object, "first_moved", "second_moved")?;
+    Ok(Met {
+        text,
+        first,
+        second,
+        first_moved,
+        second_moved,
+        merged,
+    })
+}
+
+fn read_chained(alloc: Global, object: &Value) -> Result<Chained, ReadError> {
+    let (next, composed) = two_ops(alloc, object, "next", "composed")?;
+    let after = text_field(alloc, object, "after")?;
+    Ok(Chained {
+        next,
+        composed,
+        after,
+    })
+}
+
+fn two_texts(
+    alloc: Global,
+    object: &Value,
+    first: &str,
+    second: &str,
+) -> Result<(Text, Text), ReadError> {
+    let first = text_field(alloc, object, first)?;
+    let second = text_field(alloc, object, second)?;
+    Ok((first, second))
+}
+
+fn two_ops(
+    alloc: Global,
+    object: &Value,
+    first: &str,
+    second: &str,
+) -> Result<(Op, Op), ReadError> {
+    let first = op_field(alloc, object, first)?;
+    let second = op_field(alloc, object, second)?;
+    Ok((first, second))
+}
+
+// The value at a key.
+fn field<'a>(object: &'a Value, key: &str) -> Result<&'a Value, ReadError> {
+    object.get(key).ok_or(ReadError::NoVector)
+}
+
+// The string at a key.
+fn str_field<'a>(object: &'a Value, key: &str) -> Result<&'a str, ReadError> {
+    field(object, key)?.as_str().ok_or(ReadError::NoVector)
+}
+
+// The text at a key.
+fn text_field(alloc: Global, object: &Value, key: &str) -> Result<Text, ReadError> {
+    Ok(Text::of(alloc, str_field(object, key)?)?)
+}
+
+// The first operation, in whatever spelling it stands.
+fn spelled_field(alloc: Global, object: &Value) -> Result<Op, ReadError> {
+    read_op(alloc, field(object, "spelled")?)
+}
+
+// The operation at a key, if its parts stand there as the normal ones.
+fn op_field(alloc: Global, object: &Value, key: &str) -> Result<Op, ReadError> {
+    let value = field(object, key)?;
+    let op = read_op(alloc, value)?;
+    if is_normal(alloc, value, &op)? {
+        Ok(op)
+    } else {
+        Err(ReadError::NoVector)
     }
+}
+
+// The elements of an array.
+fn elements(value: &Value) -> Result<&[Value], ReadError> {
+    match value.as_array() {
+        Some(items) => Ok(items.as_slice()),
+        None => Err(ReadError::NoVector),
+    }
+}
+
+// Whether the elements are just the operation's parts.
+fn is_normal(alloc: Global, value: &Value, op: &Op) -> Result<bool, ReadError> {
+    let items = elements(value)?;
     for (item, part) in items.iter().zip(op.parts()) {
-        match read_part(alloc, item)? {
-            Some(read) => {
-                if !read.same(part) {
-                    return Ok(false);
-                }
-            }
-            None => return Ok(false),
+        if !read_part(alloc, item)?.same(part) {
+            return Ok(false);
         }
     }
-    Ok(true)
+    Ok(items.len() == op.parts().len())
 }
 
 // The operation that has these elements as its parts, in any spelling.
-fn read_op(alloc: Global, value: &Value) -> Result<Option<Op>, AllocError> {
-    let Some(items) = value.as_array() else {
-        return Ok(None);
-    };
+fn read_op(alloc: Global, value: &Value) -> Result<Op, ReadError> {
     let mut builder = OpBuilder::new(alloc);
-    for item in items {
-        let Some(part) = read_part(alloc, item)? else {
-            return Ok(None);
-        };
-        if !builder.try_put(&part)? {
-            return Ok(None);
-        }
+    for item in elements(value)? {
+        put(alloc, &mut builder, item)?;
     }
-    Ok(Some(builder.finish()))
+    Ok(builder.finish())
+}
+
+// Puts an element in as the next part.
+fn put(alloc: Global, builder: &mut OpBuilder, item: &Value) -> Result<(), ReadError> {
+    let part = read_part(alloc, item)?;
+    if builder.try_put(&part)? {
+        Ok(())
+    } else {
+        Err(ReadError::NoVector)
+    }
 }
 
 // A string inserts, and a whole number retains or deletes.
-fn read_part(alloc: Global, value: &Value) -> Result<Option<Part>, AllocError> {
+fn read_part(alloc: Global, value: &Value) -> Result<Part, ReadError> {
     if let Some(string) = value.as_str() {
-        return Ok(Some(Part::Insert(Text::of(alloc, string)?)));
+        return Ok(Part::Insert(Text::of(alloc, string)?));
     }
-    Ok(value.as_i64().map(part_of_count))
+    match value.as_i64() {
+        Some(count) => Ok(part_of_count(count)),
+        None => Err(ReadError::NoVector),
+    }
 }
 
 // A whole number retains so many characters, or deletes them where it is below 0.
